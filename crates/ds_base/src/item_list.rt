@@ -1,4 +1,4 @@
-ghost use Rattle.std.specs.Prelude.{◌≡◌, ◌==◌, ◌+◌, ◌≤◌, ◌<◌, [], ◌∷◌, ◌++◌, length, slice_index_or, IfOk, OnOk, OnErr, IfErr, IfNone, IfSome, IsNone, ◌↔◌};
+ghost use Rattle.std.specs.Prelude.{◌≡◌, ◌==◌, ◌+◌, ◌≤◌, ◌<◌, [], ◌∷◌, ◌++◌, length, slice_get, option_to_list, OnOk, OnErr, IfErr, IsNone, ◌↔◌};
 
 use crate::OutOfMemory;
 use std::alloc::Global;
@@ -43,5 +43,48 @@ impl<T> ItemList<T> {
         ensures { result ≡ (length self.now.items == 0) }
     {
         self.items.is_empty()
+    }
+
+    /// The item at `i`, counted from 0.
+    pub fn get(&self, i: u64) -> &T
+        requires { i < length self.now.items }
+        ensures { slice_get self.now.items i ≡ Some result.now }
+    {
+        &self.items[i as usize]
+    }
+
+    /// Puts an item at the end. It is refused for want of memory alone, which comes only where
+    /// nothing was spare; then the list is as it was and the item comes back.
+    pub fn push(&mut self, item: T) -> Result<(), T>
+        ensures pushed { OnOk result (self.new.items ≡ self.old.items ++ item ∷ []) }
+        ensures spare { OnOk result (self.old.spare ≤ self.new.spare + 1) }
+        ensures refused { IfErr result (λ back. (back ≡ item) × (self.new.items ≡ self.old.items)) }
+        ensures full { OnErr result (self.old.spare ≡ 0) }
+    {
+        match self.items.push(item) {
+            Ok(()) => Ok(()),
+            Err(refused) => Err(refused.value),
+        }
+    }
+
+    /// Takes the last item out. None exactly where the list is empty.
+    pub fn pop(&mut self) -> Option<T>
+        ensures taken { self.old.items ≡ self.new.items ++ option_to_list result }
+        ensures empty { IsNone result ↔ (self.old.items ≡ []) }
+        ensures spare { self.old.spare ≤ self.new.spare }
+    {
+        self.items.pop()
+    }
+
+    /// Makes room for `more` items, which are then pushed without asking for memory.
+    pub fn reserve(&mut self, more: u64) -> Result<(), OutOfMemory>
+        ensures items { self.new.items ≡ self.old.items }
+        ensures room { OnOk result (more ≤ self.new.spare) }
+        ensures spare { self.old.spare ≤ self.new.spare }
+    {
+        match self.items.reserve(more as usize) {
+            Ok(()) => Ok(()),
+            Err(_) => Err(OutOfMemory),
+        }
     }
 }

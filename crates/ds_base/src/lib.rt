@@ -3,13 +3,35 @@
 //! folders, choosers and gates) with objects in memory that keep their promises.
 #![tactic(auto)]
 
-mod memory;
+mod capture;
 mod item_list;
+mod memory;
+mod nums;
+mod stamp;
+mod summary;
+mod text;
+mod verdict;
 
+pub use capture::{Bad, Counts, PcapFault, Tail};
 pub use item_list::ItemList;
 pub use memory::OutOfMemory;
+pub use nums::Nums;
+pub use stamp::Stamp;
+pub use summary::{Group, Summary};
+pub use text::Text;
+pub use verdict::{Answer, Verdict};
 
+/// The names of variables, captures or files, in the order of their numbers.
+pub type NameList = ItemList<Text>;
 
+/// Summaries, mostly in the order of their stamps.
+pub type SummaryList = ItemList<Summary>;
 
+/// Groups, in the order of their firsts' stamps.
+pub type GroupList = ItemList<Group>;
 
+/// One row of counts for each capture.
+pub type CountsList = ItemList<Counts>;
 
+/// Numbers, such as those of variables.
+pub type KeyList = ItemList<u32>;
