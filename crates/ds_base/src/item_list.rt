@@ -22,6 +22,9 @@ impl<T> Model for ItemList<T> {
 }
 
 impl<T> ItemList<T> {
+    ghost use Rattle.std.specs.Borrow.{sem};
+    ghost use Rattle.ds_base.specs.Lending.{LendsItem};
+
     /// The empty list, whose growth comes from `alloc`. It takes no memory.
     pub fn new(alloc: Global) -> Self
         ensures { result.items ≡ [] }
@@ -51,6 +54,15 @@ impl<T> ItemList<T> {
         ensures { slice_get self.now.items i ≡ Some result.now }
     {
         &self.items[i as usize]
+    }
+
+    /// The item at `i`, counted from 0, to be changed.
+    pub fn get_mut(&mut self, i: u64) -> &mut T
+        requires { i < length self.old.items }
+        ensures* writes_back { sem 𝓛 (LendsItem T.row self.entry i result) }
+        ensures value { slice_get self.old.items i ≡ Some result.now }
+    {
+        &mut self.items[i as usize]
     }
 
     /// Puts an item at the end. It is refused for want of memory alone, which comes only where
