@@ -4,18 +4,32 @@
 #![tactic(auto)]
 
 mod capture;
+mod chooser;
+mod fakes;
+mod folder;
+mod gate;
 mod item_list;
 mod memory;
 mod nums;
+mod sink;
+mod source;
 mod stamp;
 mod summary;
 mod text;
 mod verdict;
 
 pub use capture::{Bad, Counts, PcapFault, Tail};
+pub use chooser::{Choice, Chooser, ListChooser};
+pub use fakes::{
+    FileList, MemFolder, MemSink, MemSource, NamedFile, SureFolder, SureSink, SureSource,
+};
+pub use folder::{Folder, NoFile};
+pub use gate::{Gate, OpenGate};
 pub use item_list::ItemList;
 pub use memory::OutOfMemory;
 pub use nums::Nums;
+pub use sink::Sink;
+pub use source::{Failed, Source};
 pub use stamp::Stamp;
 pub use summary::{Group, Summary};
 pub use text::Text;

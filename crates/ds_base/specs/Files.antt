@@ -1,0 +1,7 @@
+use Rattle.std.specs.Prelude.{ℕ, List}
+use Rattle.ds_base.specs.Outside.{NamedBytes}
+use Rattle.ds_base.specs.declared.fakes.NamedFile.{NamedFile}
+
+-- a file, without where it lies in memory
+abbrev pub named_bytes : NamedFile → NamedBytes
+named_bytes file = record { name = file.name.items; bytes = file.bytes.items }
