@@ -1,3 +1,4 @@
+ghost use Rattle.std.specs.Fmt.{decimal};
 ghost use Rattle.std.specs.Prelude.{◌≡◌, ◌==◌, ◌+◌, ◌≤◌, ◌<◌, [], ◌++◌, length, slice_index, OnOk, OnErr, IfErr, encode_utf8};
 
 use crate::OutOfMemory;
@@ -72,6 +73,21 @@ impl Text {
         ensures full { OnErr result (self.old.spare < length piece.now) }
     {
         match self.text.push_str(piece) {
+            Ok(()) => Ok(()),
+            Err(_) => Err(OutOfMemory),
+        }
+    }
+
+    /// Puts a number in decimal at the end. It is refused for want of memory alone; then some of its
+    /// digits may stand at the end.
+    pub fn push_decimal(&mut self, n: u128) -> Result<(), OutOfMemory>
+        ensures pushed { OnOk result (self.new.items ≡ self.old.items ++ decimal n) }
+    {
+        let written = match u64::try_from(n) {
+            Ok(small) => write!(self.text, "{small}"),
+            Err(_) => write!(self.text, "{n}"),
+        };
+        match written {
             Ok(()) => Ok(()),
             Err(_) => Err(OutOfMemory),
         }
