@@ -1,4 +1,4 @@
-use Rattle.std.proofs.Common.{ℕ, List, [], ◌∷◌, ◌≡◌, Bool, true, false, Some, None, map, drop, zero, suc, cond, sym, ap, ◌∙◌, refl, ◌+◌, add-one}
+use Rattle.std.proofs.Common.{ℕ, List, [], ◌∷◌, ◌≡◌, true, false, Some, map, drop, zero, suc, refl}
 use Rattle.std.specs.List.{slice_get}
 use Rattle.std.specs.Str.{bytes_eq}
 use Rattle.ds_base.specs.Outside.{file_named}

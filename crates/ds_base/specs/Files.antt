@@ -1,4 +1,3 @@
-use Rattle.std.specs.Prelude.{ℕ, List}
 use Rattle.ds_base.specs.Outside.{NamedBytes}
 use Rattle.ds_base.specs.declared.fakes.NamedFile.{NamedFile}
 

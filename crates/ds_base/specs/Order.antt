@@ -1,4 +1,4 @@
-use Rattle.std.specs.Prelude.{ℕ, List, [], ◌∷◌, ◌≡◌, ◌<◌, ◌⊎◌}
+use Rattle.std.specs.Prelude.{List, [], ◌∷◌, ◌≡◌, ◌<◌, ◌⊎◌}
 use Rattle.ds_base.specs.declared.stamp.Stamp.{Stamp}
 use Rattle.ds_base.specs.declared.summary.Summary.{Summary}
 

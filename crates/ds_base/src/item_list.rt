@@ -73,6 +73,12 @@ impl<T> ItemList<T> {
         ensures refused { IfErr result (λ back. (back ≡ item) × (self.new.items ≡ self.old.items)) }
         ensures full { OnErr result (self.old.spare ≡ 0) }
     {
+        // Room for one and then twice as much each time: most lists of a group's members hold one
+        // item, and a `Vec` of its own accord begins with room for four.
+        let len = self.items.len();
+        if len == self.items.capacity() && self.items.reserve_exact(len.max(1)).is_err() {
+            return Err(item);
+        }
         match self.items.push(item) {
             Ok(()) => Ok(()),
             Err(refused) => Err(refused.value),

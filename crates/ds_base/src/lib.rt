@@ -15,6 +15,8 @@ mod sink;
 mod source;
 mod stamp;
 mod summary;
+#[cfg(test)]
+mod tests;
 mod text;
 mod verdict;
 

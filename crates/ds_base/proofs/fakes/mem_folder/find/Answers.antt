@@ -1,4 +1,4 @@
-use Rattle.std.proofs.Common.{◌≡◌, Bool, true, false, ◌∙◌, add-one, sym}
+use Rattle.std.proofs.Common.{◌≡◌, true, false, ◌∙◌, add-one, sym}
 use Rattle.std.specs.Str.{bytes_eq}
 use Rattle.ds_base.proofs.Finds.{found_here, found_later}
 use Rattle.ds_base.proofs.fakes.mem_folder.find.Goals as goal

@@ -1,4 +1,4 @@
-use Rattle.std.proofs.Common.{arith, drop, take, ap, ◌∙◌, ◌-◌, ◌+◌}
+use Rattle.std.proofs.Common.{arith}
 use Rattle.ds_base.proofs.Moves.{moved}
 use Rattle.ds_base.proofs.fakes.mem_source.MemSourceSource.read.Goals as goal
 
