@@ -1,0 +1,9 @@
+pub mod Captured
+pub mod Kept
+pub mod Format
+pub mod Records
+pub mod Good
+pub mod Numbering
+pub mod Reader
+pub mod Lent
+pub mod Reading

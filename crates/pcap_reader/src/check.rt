@@ -1,0 +1,29 @@
+ghost use Rattle.std.specs.Prelude.{◌≡◌, ◌<◌, ◌^◌, length, Some, None, IfOk, IfErr};
+ghost use Rattle.pcap_reader.specs.Good.{good_records, good_bad, good_cut};
+
+use crate::format::{front, read_header};
+use crate::record::find_record;
+use ds_base::{Bad, Tail};
+
+/// How many records a whole file has and whether it ends inside one, or its first malformed place (libpcap
+/// file format 2.4). It takes no memory.
+///
+/// This is the plain program beside `PcapReader`, which reads the same in pieces and lends the records;
+/// `each_fault_has_its_place` and `a_file_that_ends_inside_a_record_is_cut` run both.
+pub fn check_file(bytes: &[u8]) -> Result<Tail, Bad>
+    requires { length bytes.now < 2 ^ 62 }
+    ensures whole { IfOk result (λ t. (good_bad bytes.now ≡ None) × (t.records ≡ length (good_records bytes.now)) × (t.cut ≡ good_cut bytes.now)) }
+    ensures bad { IfErr result (λ b. good_bad bytes.now ≡ Some b) }
+{
+    let format = read_header(front(bytes, 24))?;
+    let mut records = 0;
+    let mut at = 24;
+    while let Some(len) = find_record(format, records, at as u64, &bytes[at..])? {
+        records += 1;
+        at += len;
+    }
+    Ok(Tail {
+        records,
+        cut: at < bytes.len(),
+    })
+}
