@@ -1,0 +1,15 @@
+-- The header of Ethernet: two addresses of six bytes and the type of what stands behind them.
+use Rattle.std.specs.Prelude.{ℕ, nat_le, if◌then◌else◌, List, length, Option, Some, None}
+use Rattle.field_table.specs.declared.head.Head.{Head}
+use Rattle.field_table.specs.NextKinds.{kind_by_ethernet_type}
+use Rattle.packet_headers.specs.Bytes.{word}
+
+abbrev pub ethernet_type : List ℕ → ℕ
+ethernet_type bytes = word bytes 12
+
+-- the header at the start of the bytes: 14 bytes, all of them there
+abbrev pub eth_header : List ℕ → Option Head
+eth_header bytes =
+    if nat_le 14 (length bytes)
+    then Some (record { len = 14; next = kind_by_ethernet_type (ethernet_type bytes); limit = length bytes })
+    else None

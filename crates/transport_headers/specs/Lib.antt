@@ -1,0 +1,4 @@
+pub mod Icmp
+pub mod Icmp6
+pub mod Tcp
+pub mod Udp

@@ -1,0 +1,16 @@
+//! The headers of TCP, UDP, ICMP and ICMPv6: for each, whether it stands at the start of some bytes,
+//! how long it is, what stands behind it and where the bytes behind it end. One file a header;
+//! whoever adds one adds a file here and a line in the header stack.
+#![tactic(auto)]
+
+mod icmp;
+mod icmp6;
+mod tcp;
+#[cfg(test)]
+mod tests;
+mod udp;
+
+pub use icmp::read_icmp;
+pub use icmp6::read_icmp6;
+pub use tcp::read_tcp;
+pub use udp::read_udp;

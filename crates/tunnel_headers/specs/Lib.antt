@@ -1,0 +1,2 @@
+pub mod Gre
+pub mod Vxlan

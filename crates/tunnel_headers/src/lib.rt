@@ -1,0 +1,12 @@
+//! The headers of GRE and VXLAN, behind which another packet begins: for each, whether it stands at
+//! the start of some bytes, how long it is, what stands behind it and where the bytes behind it end.
+//! One file a header; whoever adds one adds a file here and a line in the header stack.
+#![tactic(auto)]
+
+mod gre;
+#[cfg(test)]
+mod tests;
+mod vxlan;
+
+pub use gre::read_gre;
+pub use vxlan::read_vxlan;
