@@ -1,0 +1,4 @@
+pub mod Chains
+pub mod Fits
+pub mod Looking
+pub mod Placing
