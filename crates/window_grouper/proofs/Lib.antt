@@ -1,0 +1,11 @@
+pub mod Cuts
+pub mod Covers
+pub mod Unique
+pub mod Keys
+pub mod Placed
+pub mod Steps
+pub mod Pass
+pub mod Sorted
+pub mod Stamps
+pub mod Insertion
+pub mod Positions
