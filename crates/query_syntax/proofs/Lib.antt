@@ -1,0 +1,9 @@
+pub mod Levels
+pub mod Complete
+pub mod Standing
+pub mod Reading
+pub mod Placing
+pub mod First
+pub mod Progress
+pub mod StackFrames
+pub mod OneLexing
