@@ -1,0 +1,9 @@
+pub mod Places
+pub mod Exits
+pub mod Found
+pub mod Rise
+pub mod FirstFall
+pub mod Steps
+pub mod Walks
+pub mod Allowed
+pub mod Followed

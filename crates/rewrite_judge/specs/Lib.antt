@@ -1,0 +1,3 @@
+pub mod Rule
+pub mod Pairs
+pub mod Rewrite
