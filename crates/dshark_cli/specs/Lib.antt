@@ -1,0 +1,13 @@
+pub mod Texts
+pub mod Fates
+pub mod Words
+pub mod Count
+pub mod Tally
+pub mod Gathering
+pub mod Reading
+pub mod Parts
+pub mod Report
+pub mod Run
+pub mod Tool
+pub mod Silent
+pub mod FaultLine

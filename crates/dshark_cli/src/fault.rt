@@ -1,0 +1,27 @@
+ghost use Rattle.std.specs.Prelude.{◌≡◌};
+
+use ds_base::PcapFault;
+
+/// Why a run did not end Ok.
+#[derive(Clone, Copy, Debug, PartialEq, Eq)]
+pub enum RunFault {
+    /// The words are not accepted; `place` is the number of the first word that cannot stand, or the
+    /// number of words.
+    Usage {
+        place: u32,
+    },
+    /// This capture is malformed: its first malformed place, and what is wrong there.
+    Malformed {
+        capture: u32,
+        at: u64,
+        what: PcapFault,
+    },
+    /// A file could not be opened or read.
+    ReadFault {
+        file: u32,
+    },
+    /// The output could not be written.
+    WriteFault,
+    /// There was no memory.
+    OutOfMemory,
+}
