@@ -21,6 +21,7 @@ pub fn run_count<F: Folder, O: Sink>(
     out: &mut O,
 ) -> Result<(), RunFault>
     ensures out_stays { SinkStays (O.seen out.old) (O.seen out.new) }
+    ensures folder_stays { FolderStays (F.seen folder.old) (F.seen folder.new) }
     ensures prefix { IsTrue (F.seen folder.old).told → IsTrue (O.seen out.old).told →
         GainsPrefix (O.seen out.old).written (O.seen out.new).written (due (Some (asked_of count.now)) (F.seen folder.old)) }
     ensures ends { MatchResult result
@@ -44,7 +45,8 @@ fn gather<F: Folder>(
     file: &str,
     folder: &mut F,
 ) -> Result<Gathered, RunFault>
-    ensures { MatchResult result
+    ensures stays { FolderStays (F.seen folder.old) (F.seen folder.new) }
+    ensures ends { MatchResult result
         (GathersFile field (F.seen folder.old) (F.seen folder.new) file.now)
         (StopsFile (F.seen folder.old) (F.seen folder.new) file.now) }
 {

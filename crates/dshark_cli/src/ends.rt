@@ -20,7 +20,9 @@ pub struct FileFolder<'a, R> {
 
 impl<'a, R: Files<File = File>> FileFolder<'a, R> {
     /// The files that the runtime reaches.
-    pub fn new(files: &'a R) -> Self {
+    pub fn new(files: &'a R) -> Self
+        ensures { result.faults ≡ 0 }
+    {
         FileFolder { files, faults: 0 }
     }
 }
@@ -82,7 +84,9 @@ pub struct StreamSink<W> {
 
 impl<W: Write> StreamSink<W> {
     /// A sink that writes to this stream.
-    pub fn new(stream: W) -> Self {
+    pub fn new(stream: W) -> Self
+        ensures { result.faults ≡ 0 }
+    {
         StreamSink { stream, faults: 0 }
     }
 }

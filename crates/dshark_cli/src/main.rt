@@ -18,24 +18,28 @@ mod texts;
 mod tool;
 mod words;
 
+use complaint::complain;
 use ds_base::{ListChooser, OpenGate};
 use ends::{FileFolder, StreamSink};
+use fault::RunFault;
 use std::env;
 use std::process::ExitCode;
 use tool::run_tool;
 
 /// Runs the command of the command line.
 fn main(rt: HostRuntime) -> ExitCode {
-    // An argument that is no text is a faulty command line.
-    let Ok(arguments) = env::args(&rt) else {
-        return ExitCode::from(1);
-    };
-    let Ok(words) = arguments.skip(1).collect::<Vec<String>>(rt.alloc()) else {
-        return ExitCode::from(6);
-    };
     let mut folder = FileFolder::new(&rt);
     let mut out = StreamSink::new(rt.stdout());
     let mut err = StreamSink::new(rt.stderr());
+    // Arguments that are no text are refused like every faulty command line: as no words are.
+    let mut words = Vec::new(rt.alloc());
+    if let Ok(arguments) = env::args(&rt) {
+        let Ok(texts) = arguments.skip(1).collect::<Vec<String>>(rt.alloc()) else {
+            complain(&mut err, &Some(RunFault::OutOfMemory));
+            return ExitCode::from(6);
+        };
+        words = texts;
+    }
     let mut chooser = ListChooser::new(Vec::new(rt.alloc()));
     let ended = run_tool(
         &rt,

@@ -20,13 +20,15 @@ struct Left {
     err: Vec<u8>,
 }
 
-/// How the outside behaves: bytes a read and a write, and the numbers of a read and a write that fail.
+/// How the outside behaves: bytes a read and a write, and the numbers of a read, of a write and of a
+/// write to the standard error that fail.
 #[derive(Clone, Copy)]
 struct Outside {
     read: u32,
     write: u32,
     failing_read: Option<u32>,
     failing_write: Option<u32>,
+    failing_complaint: Option<u32>,
 }
 
 const CALM: Outside = Outside {
@@ -34,6 +36,7 @@ const CALM: Outside = Outside {
     write: 4096,
     failing_read: None,
     failing_write: None,
+    failing_complaint: None,
 };
 
 fn listed(alloc: Global, n: Option<u32>) -> Result<KeyList, AllocError> {
@@ -88,7 +91,7 @@ fn run<R: Threads + Sync>(
         outside.write.max(1),
         listed(alloc, outside.failing_write)?,
     );
-    let mut err = MemSink::new(alloc, 7, KeyList::new(alloc));
+    let mut err = MemSink::new(alloc, 7, listed(alloc, outside.failing_complaint)?);
     let mut chooser = ListChooser::new(Vec::new(alloc));
     let ended = run_tool(
         rt,
@@ -316,4 +319,37 @@ fn each_failed_write_leaves_a_prefix_of_the_report(rt: HostRuntime) -> Result<()
         assert!(rt; left.err.as_slice() == b"dshark: write\n".as_slice());
     }
     Err(Fail::from("it never ended Ok"))
+}
+
+#[test]
+fn a_failing_standard_error_changes_neither_status_nor_fault(rt: HostRuntime) -> Result<(), Fail> {
+    let alloc = rt.alloc();
+    let line = b"dshark: capture c: byte 23: short header\n".as_slice();
+    for k in 0..10 {
+        let left = run(
+            &rt,
+            alloc,
+            COUNT,
+            &HEADER[..23],
+            Outside {
+                failing_complaint: Some(k),
+                ..CALM
+            },
+        )?;
+        assert_eq!(rt;
+            left.fault,
+            Some(RunFault::Malformed {
+                capture: 0,
+                at: 23,
+                what: PcapFault::ShortHeader { len: 23 }
+            })
+        );
+        assert!(rt; left.status == 2 && left.out.is_empty());
+        if left.err.as_slice() == line {
+            assert!(rt; k == 6);
+            return Ok(());
+        }
+        assert!(rt; left.err.len() == 7 * k as usize && line.starts_with(left.err.as_slice()));
+    }
+    Err(Fail::from("the line was never whole"))
 }

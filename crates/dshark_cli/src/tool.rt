@@ -1,6 +1,6 @@
 ghost use Rattle.std.specs.Prelude.{◌≡◌, ◌⊎◌, ◌++◌, ℕ, map, string_bytes, Some, None, IsTrue, IsNone};
 ghost use Rattle.ds_base.specs.Faults.{Rose, IsQuiet};
-ghost use Rattle.ds_base.specs.Outside.{SinkStays};
+ghost use Rattle.ds_base.specs.Outside.{FolderStays, SinkStays};
 ghost use Rattle.ds_base.specs.declared.capture.PcapFault.{PcapFault};
 ghost use Rattle.ds_base.specs.Gain.{GainsPrefix};
 ghost use Rattle.dshark_cli.specs.FaultLine.{owed_line};
@@ -35,6 +35,10 @@ pub fn run_tool<R: Threads + Sync, F: Folder, O: Sink + Send, E: Sink, C: Choose
     _gate: &G,
 ) -> Ended
     ensures out_stays { SinkStays (O.seen out.old) (O.seen out.new) }
+    ensures folder_stays { FolderStays (F.seen folder.old) (F.seen folder.new) }
+
+    // The words ask at most one thing.
+    ensures one { (a b : Asked) → Asks (map string_bytes words.now) a → Asks (map string_bytes words.now) b → a ≡ b }
 
     // Ok comes only where nothing failed, and where the outside tells, the whole report was written.
     ensures ok_is_quiet { result.fault ≡ None → NothingFailed (F.seen folder.old) (F.seen folder.new) (O.seen out.old) (O.seen out.new) }
@@ -83,6 +87,7 @@ fn run<F: Folder, O: Sink>(
     out: &mut O,
 ) -> Option<RunFault>
     ensures out_stays { SinkStays (O.seen out.old) (O.seen out.new) }
+    ensures folder_stays { FolderStays (F.seen folder.old) (F.seen folder.new) }
     ensures prefix { IsTrue (F.seen folder.old).told → IsTrue (O.seen out.old).told →
         IsPrefixOfDue (map string_bytes words.now) (F.seen folder.old) (O.seen out.old) (O.seen out.new) }
     ensures one { (a b : Asked) → Asks (map string_bytes words.now) a → Asks (map string_bytes words.now) b → a ≡ b }

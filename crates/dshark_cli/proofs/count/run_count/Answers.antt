@@ -13,7 +13,7 @@ returns-in_default-clause-prefix g c folder out = gains_nothing _ _
 
 pub returns-clause-prefix : goal.returns-clause-prefix
 returns-clause-prefix g c folder out =
-    let gathered = c.in_ok-gathered.ensures in
+    let gathered = c.in_ok-gathered.ensures.ends in
     let is = c.in-Ok.ensures c.args.count.now.field gathered.given gathered.all in
     let text : c.as_bytes.result.now ≡ c.in-Ok.text.items = c.as_bytes.ensures.value ∙ c.as_str.ensures in
     let owed = ap (due_from (asked_of c.args.count.now)) (gathered.file folder) in
