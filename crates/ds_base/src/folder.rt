@@ -1,4 +1,4 @@
-ghost use Rattle.std.specs.Prelude.{◌≡◌, ◌≢◌, ◌⊎◌, IsTrue, IfOk, IsErrOf, OnOk, Some, None, Err};
+ghost use Rattle.std.specs.Prelude.{◌≡◌, ◌≢◌, ◌⊎◌, IsTrue, IfOk, IsErrOf, Some, None, Err};
 ghost use Rattle.ds_base.specs.Faults.{Rose};
 ghost use Rattle.ds_base.specs.Outside.{FolderSeen, FolderStays, IsFresh, file_named};
 

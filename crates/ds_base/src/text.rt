@@ -1,5 +1,5 @@
 ghost use Rattle.std.specs.Fmt.{decimal};
-ghost use Rattle.std.specs.Prelude.{◌≡◌, ◌==◌, ◌+◌, ◌≤◌, ◌<◌, [], ◌++◌, length, slice_index, OnOk, OnErr, IfErr, encode_utf8};
+ghost use Rattle.std.specs.Prelude.{◌≡◌, ◌==◌, ◌+◌, ◌<◌, [], ◌++◌, length, OnOk, OnErr, IfErr, encode_utf8};
 
 use crate::OutOfMemory;
 use std::alloc::Global;

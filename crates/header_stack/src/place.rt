@@ -1,4 +1,4 @@
-ghost use Rattle.std.specs.Prelude.{◌≡◌, ◌≤◌, length, slice_range};
+ghost use Rattle.std.specs.Prelude.{◌≡◌, slice_range};
 ghost use Rattle.header_stack.specs.Places.{LiesIn};
 
 use field_table::Kind;

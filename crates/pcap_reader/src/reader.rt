@@ -1,9 +1,9 @@
-ghost use Rattle.std.specs.Prelude.{◌≡◌, ◌+◌, ◌≤◌, ◌<◌, ◌^◌, ℕ, List, [], ◌++◌, ⊤, length, Option, IsNone, Some, None, OnOk, OnErr, IfOk, IfErr, IfSome, IfNone, MatchOption, MatchResult, ◌⊎◌, true, false};
+ghost use Rattle.std.specs.Prelude.{◌≡◌, ◌+◌, ◌<◌, ◌^◌, ℕ, List, [], ◌++◌, ⊤, length, Option, Some, None, OnOk, OnErr, IfOk, IfErr, IfSome, IfNone, true, false};
 ghost use Rattle.std.specs.Borrow.{sem};
 ghost use Rattle.pcap_reader.specs.Captured.{Captured};
 ghost use Rattle.pcap_reader.specs.Good.{good_records, good_bad, good_cut};
 ghost use Rattle.pcap_reader.specs.Reader.{Reader, StandsFor, IsWaiting, bytes_fed, bytes_held, records_given};
-ghost use Rattle.pcap_reader.specs.Format.{is_short_header, is_link};
+ghost use Rattle.pcap_reader.specs.Format.{is_short_header};
 ghost use Rattle.pcap_reader.specs.Lent.{captured, IsLawful, Gives, Opens, Advances};
 
 use crate::buffer::Buffer;
@@ -30,9 +30,8 @@ pub struct PcapReader {
 }
 
 impl Model for PcapReader {
-    ghost use Rattle.std.specs.Prelude.{◌≤◌, ◌<◌, ◌+◌, ◌^◌, length};
+    ghost use Rattle.std.specs.Prelude.{◌<◌, ◌+◌, ◌^◌, length};
     ghost use Rattle.pcap_reader.specs.Reader.{Reader};
-    ghost use Rattle.pcap_reader.specs.Records.{most_records};
 
     ghost Value = { Reader };
 

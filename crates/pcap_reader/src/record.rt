@@ -1,6 +1,5 @@
-ghost use Rattle.std.specs.Prelude.{◌≡◌, ◌+◌, ◌<◌, ◌≤◌, ◌^◌, length, true, false, drop, Option, None, Some, IfOk, IfSome, IfNone, MatchOption, MatchResult};
-ghost use Rattle.pcap_reader.specs.Format.{word, is_short_header};
-ghost use Rattle.pcap_reader.specs.Records.{most_records, longest, begins_record, record_length, record_fault, time_of, shown, Finds};
+ghost use Rattle.std.specs.Prelude.{◌≡◌, ◌+◌, ◌<◌, ◌≤◌, ◌^◌, length, Option, None, Some, IfOk, IfSome, IfNone};
+ghost use Rattle.pcap_reader.specs.Records.{begins_record, record_fault, time_of, shown, Finds};
 ghost use Rattle.pcap_reader.specs.Lent.{captured};
 
 use crate::format::{Format, Precision, read_word};

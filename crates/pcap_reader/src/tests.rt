@@ -1,5 +1,5 @@
 //! Capture files as bytes, by the format: read in pieces of several lengths, and by the plain program.
-ghost use Rattle.std.specs.Prelude.{◌≡◌, ◌≤◌, ◌<◌, ◌^◌, length, IfOk, IfNone, OnOk};
+ghost use Rattle.std.specs.Prelude.{◌≡◌, ◌≤◌, ◌<◌, ◌^◌, length, IfOk, IfNone};
 ghost use Rattle.pcap_reader.specs.Reader.{bytes_fed, IsWaiting};
 
 use crate::{PcapReader, RecordRef, check_file, one_reading};

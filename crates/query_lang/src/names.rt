@@ -1,5 +1,4 @@
-ghost use Rattle.std.specs.Prelude.{◌≡◌, ◌<◌, ◌≤◌, ◌^◌, ◌+◌, ◌∷◌, true, false, length, take, drop, bytes_eq, MatchResult};
-ghost use Rattle.std.specs.List.{position_or_len};
+ghost use Rattle.std.specs.Prelude.{◌≡◌, ◌<◌, ◌^◌, ◌+◌, ◌∷◌, true, false, length, drop, MatchResult};
 ghost use Rattle.query_lang.specs.Names.{word_in, place, is_named};
 
 use ds_base::{NameList, Text};

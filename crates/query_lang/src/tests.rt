@@ -1,4 +1,4 @@
-ghost use Rattle.std.specs.Prelude.{◌≡◌, ◌≤◌, ◌<◌, ◌∷◌, [], ◌++◌, length, IfOk, OnOk, All};
+ghost use Rattle.std.specs.Prelude.{◌≡◌, ◌<◌, ◌∷◌, [], ◌++◌, length, IfOk, OnOk, All};
 
 use crate::{Expr, Names, ParseFault, QueryFault, QueryWhat, Scope, eval_group, eval_one, parse};
 use ds_base::{Group, ItemList, NameList, Nums, OutOfMemory, Stamp, Summary, Text};

@@ -1,6 +1,6 @@
 ghost use Rattle.std.specs.Prelude.{◌≡◌, IfOk, option_map};
 ghost use Rattle.query_syntax.specs.Tree.{tree_of};
-ghost use Rattle.query_syntax.specs.Frames.{frames, mode_of, state_of};
+ghost use Rattle.query_syntax.specs.Frames.{frames, state_of};
 ghost use Rattle.query_syntax.specs.Machine.{step, turned, joined, closed_by, reduce, whole};
 ghost use Rattle.query_syntax.specs.Grammar.{left_rank};
 

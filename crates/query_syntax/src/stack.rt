@@ -1,4 +1,4 @@
-ghost use Rattle.std.specs.Prelude.{◌≡◌, ◌≤◌, ◌+◌, true, false, [], ◌∷◌, length, OnOk, IfOk, MatchOption, option_copied, option_map};
+ghost use Rattle.std.specs.Prelude.{◌≡◌, ◌+◌, true, false, [], ◌∷◌, length, OnOk, IfOk, MatchOption, option_copied, option_map};
 ghost use Rattle.query_syntax.specs.Tree.{tree_of, Joined};
 ghost use Rattle.query_syntax.specs.Frames.{frame_of, frames};
 ghost use Rattle.query_syntax.specs.Machine.{Pending, topmost, frame_binds, binds, frame_compares, is_compared, reduce};
