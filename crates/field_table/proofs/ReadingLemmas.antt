@@ -13,9 +13,8 @@ use Rattle.std.specs.Prelude.{◌==◌, ◌&&◌, nat_lt, nat_le, not}
 use Rattle.std.specs.Str.{bytes_eq}
 use Rattle.field_table.specs.declared.kind.Kind.{Kind}
 use Rattle.field_table.specs.declared.kind.Kind.TheVariants.{Eth, Tag, Ipv4, Ipv6, Ext, Frag, Tcp, Udp, Icmp, Icmp6, Gre, Vxlan}
-use Rattle.field_table.specs.declared.names.TheConstants.{KINDS}
 use Rattle.field_table.specs.FieldText.{kind_text, index_text, name_of, text_of}
-use Rattle.field_table.specs.Reading.{split_at, kind_of, number_of_name, is_digit, small_number, from_inside, from_outside, index_of, behind_point, parts_of}
+use Rattle.field_table.specs.Reading.{split_at, kinds, kind_of, number_of_name, is_digit, small_number, from_inside, from_outside, index_of, behind_point, parts_of}
 use Rattle.field_table.specs.Table.{names_of}
 
 place-map : {A B : Type 0} (p : B → Bool) (f : A → B) (xs : List A) → position_or_len p (map f xs) ≡ position_or_len (λ x. p (f x)) xs
@@ -270,7 +269,7 @@ joined text front index kind way name field cut closed kind_is way_read pointed 
     let inner : front.1 ≡ index_text way.0 way.1 ++ (93 ∷ 46 ∷ name_of kind field) =
     split_parts 93 front.1 index closed ∙ (ap (λ i. i ++ (93 ∷ index.1)) way_facts.0 ∙ ap (λ b. index_text way.0 way.1 ++ (93 ∷ b)) behind) in
     let whole : text ≡ text_of kind way.0 way.1 field =
-    split_parts 91 text front cut ∙ (ap (λ k. k ++ (91 ∷ front.1)) (kind_found front.0 KINDS kind kind_is) ∙ ap (λ r. kind_text kind ++ (91 ∷ r)) inner) in
+    split_parts 91 text front cut ∙ (ap (λ k. k ++ (91 ∷ front.1)) (kind_found front.0 kinds kind kind_is) ∙ ap (λ r. kind_text kind ++ (91 ∷ r)) inner) in
     record { spelled = whole; near = way_facts.1; within = name_facts.1 }
 
 pub parts_found : (text : List ℕ) (kind : Kind) (way : Bool × ℕ) (field : ℕ) → parts_of text ≡ Some (kind, way, field) → IsText text kind way field

@@ -3,7 +3,7 @@ use Rattle.std.specs.Prelude.{ℕ, ◌+◌, ◌-◌, ◌==◌, ◌&&◌, nat_le,
 use Rattle.std.specs.List.{find}
 use Rattle.std.specs.Str.{bytes_eq}
 use Rattle.field_table.specs.declared.kind.Kind.{Kind}
-use Rattle.field_table.specs.declared.names.TheConstants.{KINDS}
+use Rattle.field_table.specs.declared.kind.Kind.TheVariants.{Eth, Tag, Ipv4, Ipv6, Ext, Frag, Tcp, Udp, Icmp, Icmp6, Gre, Vxlan}
 use Rattle.field_table.specs.FieldText.{kind_text}
 use Rattle.field_table.specs.Table.{names_of}
 
@@ -15,9 +15,12 @@ o >>= f = option_and_then f o
 abbrev pub split_at : ℕ → List ℕ → Option (List ℕ × List ℕ)
 split_at mark bytes = position (λ b. b == mark) bytes >>= λ at. Some (take at bytes, drop (at + 1) bytes)
 
+abbrev pub kinds : List Kind
+kinds = Eth ∷ Tag ∷ Ipv4 ∷ Ipv6 ∷ Ext ∷ Frag ∷ Tcp ∷ Udp ∷ Icmp ∷ Icmp6 ∷ Gre ∷ Vxlan ∷ []
+
 -- the kind with that word
 abbrev pub kind_of : List ℕ → Option Kind
-kind_of word = find (λ kind. bytes_eq (kind_text kind) word) KINDS
+kind_of word = find (λ kind. bytes_eq (kind_text kind) word) kinds
 
 -- the field of a kind with that name
 abbrev pub number_of_name : Kind → List ℕ → Option ℕ

@@ -1,4 +1,4 @@
-ghost use Rattle.std.specs.Prelude.{◌≡◌, ◌≤◌, IfSome, Some, option_map};
+ghost use Rattle.std.specs.Prelude.{◌≡◌, IfSome, Some};
 ghost use Rattle.field_table.specs.declared.field_ref.FieldRef.{FieldRef};
 ghost use Rattle.field_table.specs.FieldText.{field_text};
 ghost use Rattle.field_table.specs.Fields.{form_of};

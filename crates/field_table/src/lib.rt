@@ -1,6 +1,6 @@
 //! The kinds of header that a packet may have, the fields of each kind, and the text by which a
 //! field is named. The number of a field in a header's bytes, and that number printed in the
-//! field's form. One table has the fields; whoever adds a header adds its rows there.
+//! field's form. src/table.rt has the fields, and is held to specs/Table: a new row goes into both.
 #![tactic(auto)]
 
 // Kinds, and what is read of a header.

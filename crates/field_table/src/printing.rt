@@ -1,5 +1,4 @@
 ghost use Rattle.std.specs.Prelude.{◌≡◌, IfOk};
-ghost use Rattle.std.specs.Fmt.{decimal};
 ghost use Rattle.std.specs.String.{string_bytes};
 ghost use Rattle.field_table.specs.FieldText.{field_text};
 ghost use Rattle.field_table.specs.ValueText.{addr4_text, addr6_text, hex_text, mac_text, value_text};

@@ -117,7 +117,8 @@ pub(crate) static VXLAN: [(&str, Layout); 2] = [
     row!("vni", At(32), 24, Dec),
 ];
 
-/// The fields of a kind, in the order of their numbers: the name and the layout of each.
+/// The fields of a kind, in the order of their numbers: the name and the layout of each. Here the
+/// table is held to the rows that the definitions write out.
 pub(crate) fn rows(kind: Kind) -> &'static [(&'static str, Layout)]
     ensures names { map (λ row. row.0.now) result.now ≡ names_of kind }
     ensures layouts { map (λ row. row.1) result.now ≡ layouts_of kind }
