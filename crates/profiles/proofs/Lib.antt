@@ -1,0 +1,11 @@
+pub mod Put
+pub mod Classes
+pub mod Kept
+pub mod Places
+pub mod Tells
+pub mod Counting
+pub mod Neighbours
+pub mod Merging
+pub mod Orders
+pub mod Unique
+pub mod Windows

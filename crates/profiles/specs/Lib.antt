@@ -1,0 +1,5 @@
+pub mod Delays
+pub mod Rows
+pub mod Profile
+pub mod Put
+pub mod Laws
