@@ -1,0 +1,10 @@
+pub mod Asking
+pub mod Complete
+pub mod Going
+pub mod KindLists
+pub mod Names
+pub mod Next
+pub mod Parts
+pub mod Places
+pub mod Steps
+pub mod Taking

@@ -1,0 +1,85 @@
+ghost use Rattle.std.specs.Prelude.{◌≡◌, ◌≤◌, IfSome, map, length};
+ghost use Rattle.command_words.specs.CommandTable.{command_word, plain_kinds, options_of};
+
+use crate::kind::Kind;
+
+// Whoever adds a command names it here, gives it its word and its row, and the same row in
+// specs/CommandTable; says in specs/Words what it asks, and gives it an arm in command.rt. Nothing
+// else of the reader changes; the lemmas that go over all commands gain a line each.
+
+/// The name of a command.
+#[derive(Clone, Copy, Debug, PartialEq, Eq)]
+pub(crate) enum Name {
+    /// The report of one capture.
+    Count,
+    /// The stack of each packet's headers.
+    Stack,
+    /// A job, read and printed again.
+    Check,
+    /// What the program can be asked.
+    Help,
+    /// The version of the program.
+    Version,
+}
+
+/// How many words a command needs at most.
+pub(crate) const MOST_WORDS: usize = 3;
+
+/// How many options a command has at most.
+pub(crate) const MOST_OPTIONS: usize = 2;
+
+/// What may stand behind the word of a command.
+#[derive(Clone, Copy)]
+pub(crate) struct Row {
+    /// The words that the command needs, in order.
+    pub plain: &'static [Kind],
+    /// The word of each option, and what its value may be.
+    pub options: &'static [(&'static str, Kind)],
+}
+
+/// The row of a command in the table of commands.
+pub(crate) fn row_of(command: Name) -> Row
+    ensures plain { result.plain.now ≡ plain_kinds command }
+    ensures few { length result.plain.now ≤ MOST_WORDS }
+    ensures options { map (λ o. o.0.now) result.options.now ≡ map (λ o. o.0) (options_of command) }
+    ensures option_kinds { map (λ o. o.1) result.options.now ≡ map (λ o. o.1) (options_of command) }
+    ensures few_options { length result.options.now ≤ MOST_OPTIONS }
+    ensures as_many { length result.options.now ≡ length (options_of command) }
+{
+    match command {
+        Name::Count => Row {
+            plain: &[Kind::Field, Kind::Number(0, 3_600_000_000_000), Kind::File],
+            options: &[],
+        },
+        Name::Stack => Row {
+            plain: &[Kind::File],
+            options: &[
+                ("--port", Kind::Number(1, 65_535)),
+                ("--field", Kind::Field),
+            ],
+        },
+        Name::Check => Row {
+            plain: &[Kind::File],
+            options: &[],
+        },
+        Name::Help | Name::Version => Row {
+            plain: &[],
+            options: &[],
+        },
+    }
+}
+
+/// The command of a word.
+pub(crate) fn command_named(word: &str) -> Option<Name>
+    ensures named { IfSome result (λ command. word.now ≡ command_word command) }
+    ensures only { (command : Name) → word.now ≡ command_word command → result ≡ Some command }
+{
+    match word {
+        "count" => Some(Name::Count),
+        "stack" => Some(Name::Stack),
+        "check" => Some(Name::Check),
+        "--help" => Some(Name::Help),
+        "--version" => Some(Name::Version),
+        _ => None,
+    }
+}
