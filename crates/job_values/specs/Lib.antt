@@ -1,0 +1,5 @@
+pub mod Said
+pub mod Values
+pub mod Fields
+pub mod Parsed
+pub mod Wide

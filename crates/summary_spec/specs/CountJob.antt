@@ -1,0 +1,24 @@
+-- The job of the command `count`.
+use Rattle.std.specs.Prelude.{ℕ, List, [], ◌∷◌, false, codes}
+use Rattle.field_table.specs.declared.field_ref.FieldRef.{FieldRef}
+use Rattle.query_lang.specs.Expression.{Literal}
+use Rattle.summary_spec.specs.Declaration.{Declared, Everything}
+
+-- One capture `c` in this file, one variable `v` that is the field and the key, and every packet that
+-- has the field: the copies within the window are gathered, and nothing is asked of them. VXLAN has its
+-- port (RFC 7348 section 5), and the skew is an hour.
+abbrev pub count_job : FieldRef → (window : ℕ) → (file : List ℕ) → Declared
+count_job field window file = record {
+  port = 4789;
+  vars = codes "v" ∷ [];
+  captures = codes "c" ∷ [];
+  files = file ∷ [];
+  takes = (field ∷ []) ∷ [];
+  filter_text = codes "1";
+  filter = Literal 1;
+  key = 0 ∷ [];
+  window = window;
+  skew = 3600000000000;
+  profile = false;
+  query = Everything;
+}

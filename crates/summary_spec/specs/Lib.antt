@@ -1,0 +1,10 @@
+pub mod Declaration
+pub mod Lawful
+pub mod Job
+pub mod CountJob
+pub mod Propositions
+pub mod Words
+pub mod Table
+pub mod QueryTable
+pub mod Reads
+pub mod Canonical

@@ -1,0 +1,58 @@
+ghost use Rattle.std.specs.Prelude.{◌≡◌, ◌≤◌, [], ◌∷◌, IfOk};
+ghost use Rattle.summary_spec.specs.CountJob.{count_job};
+ghost use Rattle.summary_spec.specs.Job.{declared_of};
+ghost use Rattle.summary_spec.specs.Lawful.{longest};
+
+use crate::job::{FieldList, Job, TakeList};
+use crate::query::Query;
+use crate::rules::{copied, put};
+use crate::scalars::LONGEST;
+use ds_base::{ItemList, KeyList, NameList, OutOfMemory};
+use field_table::FieldRef;
+use query_lang::{Expr, Names};
+use std::alloc::Global;
+
+impl Job {
+    /// The job with one capture `c` of this file and one variable `v` of this field, which is the
+    /// key. The window is in nanoseconds, and at most an hour; the skew is an hour. Every record
+    /// passes, nothing is asked, and no delays are reported.
+    pub fn count(
+        alloc: Global,
+        field: FieldRef,
+        window: u64,
+        file: &str,
+    ) -> Result<Job, OutOfMemory>
+        requires { window ≤ longest }
+        ensures { IfOk result (λ job. declared_of job ≡ count_job field window file.now) }
+    {
+        let vars: NameList = only(alloc, copied(alloc, "v")?)?;
+        let captures: NameList = only(alloc, copied(alloc, "c")?)?;
+        let files: NameList = only(alloc, copied(alloc, file)?)?;
+        let take: FieldList = only(alloc, field)?;
+        let takes: TakeList = only(alloc, take)?;
+        let key: KeyList = only(alloc, 0)?;
+        let filter_text = copied(alloc, "1")?;
+        Ok(Job {
+            port: 4789,
+            names: Names { vars, captures },
+            files,
+            takes,
+            filter_text,
+            filter: Expr::Number(1),
+            key,
+            window,
+            skew: LONGEST,
+            profile: false,
+            query: Query::All,
+        })
+    }
+}
+
+// A list of one item.
+fn only<T: Drop>(alloc: Global, item: T) -> Result<ItemList<T>, OutOfMemory>
+    ensures { IfOk result (λ list. list.items ≡ item ∷ []) }
+{
+    let mut list = ItemList::new(alloc);
+    put(&mut list, item)?;
+    Ok(list)
+}
