@@ -1,0 +1,5 @@
+pub mod Sum
+pub mod Late
+pub mod Fates
+pub mod Tally
+pub mod Shard

@@ -1,0 +1,38 @@
+-- What a tally says of the records that it took up.
+use Rattle.std.specs.Prelude.{ℕ, List, ◌≡◌, ◌+◌, max, length, count_by, Option, None, Some}
+use Rattle.pcap_reader.specs.Captured.{Captured}
+use Rattle.summary_spec.specs.Declaration.{Declared}
+use Rattle.key_select.specs.declared.tally.Tally.{Tally}
+use Rattle.key_select.specs.Late.{greatest_time}
+use Rattle.key_select.specs.Fates.{fates_of, accepted_of, is_unmatched, is_too_late}
+
+-- the capture whose records a tally takes up
+abbrev pub capture_of : Tally → ℕ
+capture_of tally = tally.capture
+
+-- how many records it took up
+abbrev pub records_taken : Tally → ℕ
+records_taken tally = tally.records
+
+-- the tally is that of these first records of the capture, by the job
+pub record Tallies (job : Declared) (capture : ℕ) (tally : Tally) (taken : List Captured) : Type 0 where
+  pub capture_is : tally.capture ≡ capture
+  pub records : tally.records ≡ length taken
+  pub unmatched : tally.unmatched ≡ count_by is_unmatched (fates_of job capture taken)
+  pub late : tally.late ≡ count_by is_too_late (fates_of job capture taken)
+  pub accepted : tally.accepted ≡ length (accepted_of job capture taken)
+  pub newest : tally.newest ≡ greatest_time taken
+
+-- the greatest time behind one record more
+abbrev pub newest_after : (time : ℕ) → Option ℕ → Option ℕ
+newest_after time None = Some time
+newest_after time (Some newest) = Some (max newest time)
+
+-- a record of this time was counted, and not yet what becomes of it
+abbrev pub Passes : (time : ℕ) → (old new : Tally) → Type 0
+Passes time old new = (new.capture ≡ old.capture)
+    × (new.records ≡ old.records + 1)
+    × (new.unmatched ≡ old.unmatched)
+    × (new.late ≡ old.late)
+    × (new.accepted ≡ old.accepted)
+    × (new.newest ≡ newest_after time old.newest)

@@ -1,0 +1,20 @@
+//! From a record of a capture to its summary, by what a job declares: the values of its variables,
+//! its key, the filter; whether it comes too late; how the records of a capture fared; and the
+//! number of the shard that a key belongs to.
+#![tactic(auto)]
+
+// One record, or one key.
+mod hash;
+mod late;
+mod summary;
+mod values;
+
+// The records of one capture.
+mod tally;
+#[cfg(test)]
+mod tests;
+
+pub use hash::shard;
+pub use late::is_late;
+pub use summary::select;
+pub use tally::Tally;

@@ -1,0 +1,122 @@
+ghost use Rattle.std.specs.Prelude.{◌≡◌, ◌≤◌, ◌<◌, ◌+◌, ◌∷◌, ◌++◌, [], ◌^◌, ℕ, List, Some, length, max, OnOk, OnErr, IfSome};
+ghost use Rattle.std.proofs.Props.{props};
+ghost use Rattle.pcap_reader.specs.Captured.{Captured};
+ghost use Rattle.pcap_reader.specs.Lent.{captured, IsLawful};
+ghost use Rattle.summary_spec.specs.Declaration.{Declared};
+ghost use Rattle.summary_spec.specs.Job.{declared_of};
+ghost use Rattle.key_select.specs.Fates.{accepted_behind, counts_of};
+
+use crate::late::is_late;
+use crate::summary::select;
+use ds_base::{Counts, OutOfMemory, SummaryList};
+use pcap_reader::RecordRef;
+use summary_spec::Job;
+
+/// How the records of one capture fared so far. They are taken up in their order.
+#[derive(Debug, Drop)]
+pub struct Tally {
+    // the capture's number in the job
+    capture: u32,
+    // how many records there were
+    records: u64,
+    // how many of them give no summary
+    unmatched: u64,
+    // how many others came too late
+    late: u64,
+    // how many others there were, whose summaries are accepted
+    accepted: u64,
+    // the greatest time of a record, in nanoseconds
+    newest: Option<u64>,
+    ghost few: { unmatched + late + accepted ≤ records },
+    ghost early: { IfSome newest (λ n. n < 2 ^ 63) } by { Prim.hlevel props },
+}
+
+impl Tally {
+    ghost use Rattle.key_select.specs.Tally.{Tallies, capture_of, records_taken, Passes};
+
+    /// No record of the capture with this number.
+    pub fn new(capture: u32) -> Self
+        ensures tallies { (job : Declared) → Tallies job capture result [] }
+        ensures capture { capture_of result ≡ capture }
+        ensures records { records_taken result ≡ 0 }
+    {
+        Tally {
+            capture,
+            records: 0,
+            unmatched: 0,
+            late: 0,
+            accepted: 0,
+            newest: None,
+        }
+    }
+
+    /// Takes the next record up. An accepted summary goes to the end of `accepted`; where that wants
+    /// memory and there is none, all stays as it was.
+    pub fn take(
+        &mut self,
+        job: &Job,
+        r: &RecordRef<'_>,
+        accepted: &mut SummaryList,
+    ) -> Result<(), OutOfMemory>
+        requires capture { capture_of self.old < length job.now.names.captures.items }
+        requires lawful { IsLawful (captured r.now) }
+        requires few { records_taken self.old < 2 ^ 63 }
+        ensures tallies { OnOk result ((capture : ℕ) (taken : List Captured) →
+            Tallies (declared_of job.now) capture self.old taken → Tallies (declared_of job.now) capture self.new (taken ++ captured r.now ∷ [])) }
+        ensures accepted { OnOk result ((capture : ℕ) (taken : List Captured) → Tallies (declared_of job.now) capture self.old taken →
+            accepted.new.items ≡ accepted.old.items ++ accepted_behind (declared_of job.now) capture taken (captured r.now)) }
+        ensures capture { capture_of self.new ≡ capture_of self.old }
+        ensures records { OnOk result (records_taken self.new ≡ records_taken self.old + 1) }
+        ensures spare { OnOk result (accepted.old.spare ≤ accepted.new.spare + 1) }
+        ensures refused { OnErr result (self.new ≡ self.old) }
+        ensures kept { OnErr result (accepted.new.items ≡ accepted.old.items) }
+        ensures full { OnErr result (accepted.old.spare ≡ 0) }
+    {
+        match select(job, self.capture, r) {
+            None => {
+                self.pass(r.time);
+                self.unmatched += 1;
+                Ok(())
+            }
+            Some(summary) => {
+                if is_late(r.time, job.skew, self.newest) {
+                    self.pass(r.time);
+                    self.late += 1;
+                    return Ok(());
+                }
+                let Ok(()) = accepted.push(summary) else {
+                    return Err(OutOfMemory);
+                };
+                self.pass(r.time);
+                self.accepted += 1;
+                Ok(())
+            }
+        }
+    }
+
+    /// How the records fared; `cut` says whether the file ends inside a record.
+    pub fn counts(&self, cut: bool) -> Counts
+        ensures { (job : Declared) (capture : ℕ) (taken : List Captured) → Tallies job capture self.now taken → result ≡ counts_of job capture taken cut }
+    {
+        Counts {
+            records: self.records,
+            unmatched: self.unmatched,
+            late: self.late,
+            accepted: self.accepted,
+            cut,
+        }
+    }
+
+    // Counts a record of this time, whatever becomes of it.
+    fn pass(&mut self, time: u64)
+        requires early { time < 2 ^ 63 }
+        requires few { records_taken self.old < 2 ^ 63 }
+        ensures { Passes time self.old self.new }
+    {
+        self.records += 1;
+        self.newest = Some(match self.newest {
+            None => time,
+            Some(newest) => newest.max(time),
+        });
+    }
+}
