@@ -1,8 +1,15 @@
 pub mod Lists
 pub mod Gaining
+pub mod Printed
+pub mod Standing
+pub mod Stacking
+pub mod Printing
 pub mod Asking
-pub mod Tallying
+pub mod Limits
+pub mod Captures
 pub mod Numbered
+pub mod Naming
 pub mod Reporting
+pub mod Filling
+pub mod Checking
 pub mod Ending
-pub mod Digits

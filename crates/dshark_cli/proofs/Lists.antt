@@ -1,4 +1,4 @@
-use Rattle.std.proofs.Common.{ℕ, List, [], ◌∷◌, ◌++◌, ◌≡◌, ◌<◌, ◌≤◌, ◌+◌, zero, suc, length, get_or, drop, map, Some, refl, sym, ap, ◌∙◌, add-one, append_assoc, arith}
+use Rattle.std.proofs.Common.{ℕ, List, [], ◌∷◌, ◌++◌, ◌≡◌, ◌+◌, zero, suc, drop, map, Some, refl, sym, ap, ◌∙◌, add-one, append_assoc}
 use Rattle.std.specs.List.{slice_get, flat_map}
 
 -- the list from place i on begins with the item there
@@ -19,18 +19,9 @@ pub flat_map-map : {A B : Type 0} (f : B → List ℕ) (g : A → B) (xs : List 
 flat_map-map f g [] = refl
 flat_map-map f g (x ∷ xs) = ap (λ ys. f (g x) ++ ys) (flat_map-map f g xs)
 
--- a list of four items, from its reads
-pub four_items : {A : Type 0} (xs : List A) (a b c d : A) → 4 ≤ length xs → length xs < 5
-    → a ≡ get_or xs 0 a → b ≡ get_or xs 1 b → c ≡ get_or xs 2 c → d ≡ get_or xs 3 d → xs ≡ a ∷ b ∷ c ∷ d ∷ []
-four_items [] a b c d low high p q r s = absurd (omega arith)
-four_items (w ∷ []) a b c d low high p q r s = absurd (omega arith)
-four_items (w ∷ x ∷ []) a b c d low high p q r s = absurd (omega arith)
-four_items (w ∷ x ∷ y ∷ []) a b c d low high p q r s = absurd (omega arith)
-four_items (w ∷ x ∷ y ∷ z ∷ []) a b c d low high p q r s = cc
-four_items (w ∷ x ∷ y ∷ z ∷ v ∷ vs) a b c d low high p q r s = absurd (omega arith)
-
--- four texts that were lent are those that a list of four items shows
-pub four_shown : {A : Type 0} (show : A → List ℕ) (xs : List A) (a b c d : A) (p q r s : List ℕ)
-    → xs ≡ a ∷ b ∷ c ∷ d ∷ [] → p ≡ show a → q ≡ show b → r ≡ show c → s ≡ show d
-    → map show xs ≡ p ∷ q ∷ r ∷ s ∷ []
-four_shown show xs a b c d p q r s all pa qb rc sd = ap (map show) all ∙ rw (pa, qb, rc, sd) refl
+-- four pieces that were put one behind the other
+pub four_pieces : (start one two three four a b c d : List ℕ) → one ≡ start ++ a → two ≡ one ++ b → three ≡ two ++ c → four ≡ three ++ d
+    → four ≡ start ++ (a ++ b ++ c ++ d)
+four_pieces start one two three four a b c d p q r s =
+    s ∙ ap (λ xs. xs ++ d) (r ∙ ap (λ xs. xs ++ c) (q ∙ ap (λ xs. xs ++ b) p ∙ append_assoc start a b) ∙ append_assoc start (a ++ b) c)
+    ∙ append_assoc start (a ++ b ++ c) d

@@ -1,39 +1,51 @@
-use Rattle.std.proofs.Common.{ℕ, List, ◌≡◌, ◌∙◌, Bool, length, ap}
-use Rattle.std.specs.Prelude.{count_by}
+use Rattle.std.proofs.Common.{ℕ, zero, suc, List, [], ◌∷◌, ◌++◌, ◌≡◌, ◌∙◌, map, length, refl, sym, ap}
+use Rattle.std.proofs.lemmas.List.{append-nil}
+use Rattle.answer_text.specs.Lines.{capture_text, end_text}
+use Rattle.answer_text.specs.Pieces.{name_of}
+use Rattle.ds_base.specs.Copies.{Copies}
+use Rattle.ds_base.specs.Items.{Items}
 use Rattle.ds_base.specs.declared.capture.Counts.{Counts}
 use Rattle.ds_base.specs.declared.summary.Summary.{Summary}
-use Rattle.field_table.specs.declared.field_ref.FieldRef.{FieldRef}
+use Rattle.key_select.specs.Fates.{accepted_of, counts_of}
 use Rattle.pcap_reader.specs.Good.{good_records, good_cut}
+use Rattle.summary_spec.specs.Declaration.{Declared, items_of}
+use Rattle.window_grouper.specs.Groups.{groups_of}
 use Rattle.window_grouper.specs.Sorted.{by_stamp}
-use Rattle.dshark_cli.specs.declared.gather.Gathered.{Gathered}
-use Rattle.dshark_cli.specs.Fates.{fates_of, accepted_of, is_unmatched, is_too_late}
-use Rattle.dshark_cli.specs.Parts.{counts_of}
 use Rattle.dshark_cli.specs.Reading.{IsGathered}
-use Rattle.dshark_cli.specs.Report.{accepted_in, counts_in, lines_over, report}
+use Rattle.dshark_cli.specs.Report.{bare, group_text_from, group_texts, lines_over, capture_texts, accepted_from, report, names_of}
 
-abbrev the_counts : ℕ → ℕ → ℕ → ℕ → Bool → Counts
-the_counts r u l a c = record { records = r; unmatched = u; late = l; accepted = a; cut = c }
+-- the room of a name does not show
+same_name : (names : List (Items ℕ)) (n : ℕ) → name_of names n ≡ name_of (map bare (items_of names)) n
+same_name [] n = refl
+same_name (x ∷ xs) zero = refl
+same_name (x ∷ xs) (suc n) = same_name xs n
 
--- the counts of what was gathered are those of the file
-pub gathered_counts : (field : FieldRef) (gathered : Gathered) (bytes : List ℕ) → IsGathered field gathered bytes
-    → counts_of gathered ≡ counts_in field (good_records bytes) (good_cut bytes)
-gathered_counts field gathered bytes h =
-    let g : Gathered = gathered in
-    let rs = good_records bytes in
-    let fates = fates_of field rs in
-    ap (λ (n : ℕ). the_counts n g.tally.unmatched g.tally.late (length g.tally.accepted.items) g.cut) h.tallies.records
-    ∙ ap (λ (n : ℕ). the_counts (length rs) n g.tally.late (length g.tally.accepted.items) g.cut) h.tallies.unmatched
-    ∙ ap (λ (n : ℕ). the_counts (length rs) (count_by is_unmatched fates) n (length g.tally.accepted.items) g.cut) h.tallies.late
-    ∙ ap (λ (xs : List Summary). the_counts (length rs) (count_by is_unmatched fates) (count_by is_too_late fates) (length xs) g.cut) h.tallies.accepted
-    ∙ ap (λ (c : Bool). the_counts (length rs) (count_by is_unmatched fates) (count_by is_too_late fates) (length (accepted_of fates)) c) h.cut
+same_group : (names : List (Items ℕ)) (key : List ℕ) (members : ℕ) (ss : List Summary)
+    → group_text_from names key members ss ≡ group_text_from (map bare (items_of names)) key members ss
+same_group names key members [] = refl
+same_group names key members (s ∷ ss) = rw (same_name names s.at.capture) refl
 
-same_lines : (window : ℕ) (xs ys : List Summary) (a b : Counts) → xs ≡ ys → a ≡ b → lines_over window xs a ≡ lines_over window ys b
-same_lines window xs ys a b e f = ap (λ zs. lines_over window zs a) e ∙ ap (λ c. lines_over window ys c) f
+same_groups : (names : List (Items ℕ)) (groups : List Copies) → group_texts names groups ≡ group_texts (map bare (items_of names)) groups
+same_groups names [] = refl
+same_groups names (g ∷ gs) = rw (same_group names g.key (length g.members) g.members, same_groups names gs) refl
 
--- the lines over what was gathered are the report of the file
-pub gathered_report : (field : FieldRef) (window : ℕ) (gathered : Gathered) (bytes : List ℕ) (accepted list : List Summary) (counts : Counts)
-    → IsGathered field gathered bytes → accepted ≡ gathered.tally.accepted.items → list ≡ by_stamp accepted → counts ≡ counts_of gathered
-    → lines_over window list counts ≡ report field window bytes
-gathered_report field window gathered bytes accepted list counts h a l c =
-    same_lines window list (accepted_in field (good_records bytes)) counts (counts_in field (good_records bytes) (good_cut bytes))
-    (l ∙ ap by_stamp (a ∙ h.tallies.accepted)) (c ∙ gathered_counts field gathered bytes h)
+same_capture : (names : List (Items ℕ)) (capture : ℕ) (counts : Counts)
+    → capture_text names capture counts ≡ capture_text (map bare (items_of names)) capture counts
+same_capture names capture counts = rw (same_name names capture) refl
+
+-- the lines over what was gathered of the one capture are the report of its file
+pub gathered_report : (job : Declared) (names : List (Items ℕ)) (bytes : List ℕ) (accepted list : List Summary) (counts : Counts)
+    → job.captures ≡ items_of names → IsGathered job 0 [] accepted counts bytes → list ≡ by_stamp accepted
+    → lines_over names job.window list (capture_text names 0 counts) ≡ report job (bytes ∷ [])
+gathered_report job names bytes accepted list counts named h sorted =
+    let all = accepted_of job 0 (good_records bytes) in
+    let one = counts_of job 0 (good_records bytes) (good_cut bytes) in
+    let named_so : map bare (items_of names) ≡ names_of job = ap (map bare) (sym named) in
+    let captures : capture_text names 0 counts ≡ capture_texts job 0 (bytes ∷ []) =
+    same_capture names 0 counts ∙ ap (λ (ns : List (Items ℕ)). capture_text ns 0 counts) named_so
+    ∙ ap (λ (c : Counts). capture_text (names_of job) 0 c) h.counts ∙ sym (append-nil (capture_text (names_of job) 0 one)) in
+    let summaries : list ≡ by_stamp (accepted_from job 0 (bytes ∷ [])) = sorted ∙ ap by_stamp (h.accepted ∙ sym (append-nil all)) in
+    let P : List Summary → List ℕ → List ℕ = λ ss cs. lines_over (names_of job) job.window ss cs in
+    ap (λ text. text ++ capture_text names 0 counts ++ end_text (length (groups_of job.window list)) (length list))
+    (same_groups names (groups_of job.window list) ∙ ap (λ (ns : List (Items ℕ)). group_texts ns (groups_of job.window list)) named_so)
+    ∙ ap (λ (cs : List ℕ). P list cs) captures ∙ ap (λ (ss : List Summary). P ss (capture_texts job 0 (bytes ∷ []))) summaries

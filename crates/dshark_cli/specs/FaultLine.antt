@@ -3,8 +3,9 @@ use Rattle.std.specs.Prelude.{ℕ, List, [], ◌++◌, Option, Some, None, codes
 use Rattle.std.specs.Fmt.{decimal}
 use Rattle.ds_base.specs.declared.capture.PcapFault.{PcapFault}
 use Rattle.ds_base.specs.declared.capture.PcapFault.TheVariants.{PcapNg, Magic, ShortHeader, Version, LinkType, TooLong, TooMany}
+use Rattle.dshark_cli.specs.JobLine.{job_text}
 use Rattle.dshark_cli.specs.declared.fault.RunFault.{RunFault}
-use Rattle.dshark_cli.specs.declared.fault.RunFault.TheVariants.{Usage, Malformed, ReadFault, WriteFault, OutOfMemory}
+use Rattle.dshark_cli.specs.declared.fault.RunFault.TheVariants.{Usage, BadJob, Malformed, ReadFault, WriteFault, OutOfMemory}
 
 -- what is wrong with a capture
 abbrev pub what_text : PcapFault → List ℕ
@@ -19,6 +20,7 @@ what_text TooMany = codes "records"
 -- the fault, without the name of the program; the capture is named `c`
 abbrev pub fault_text : RunFault → List ℕ
 fault_text (Usage place) = codes "usage: word " ++ decimal place
+fault_text (BadJob fault) = job_text fault
 fault_text (Malformed capture at what) = codes "capture c: byte " ++ decimal at ++ codes ": " ++ what_text what
 fault_text (ReadFault file) = codes "read: file " ++ decimal file
 fault_text WriteFault = codes "write"

@@ -1,45 +1,48 @@
 -- What a capture's source gives when it is read to its end.
-use Rattle.std.specs.Prelude.{ℕ, ◌≡◌, List, IsTrue, Some, None}
+use Rattle.std.specs.Prelude.{ℕ, ◌≡◌, ◌++◌, List, IsTrue, Some, None}
 use Rattle.ds_base.specs.Faults.{Rose}
 use Rattle.ds_base.specs.Outside.{SourceSeen}
-use Rattle.field_table.specs.declared.field_ref.FieldRef.{FieldRef}
+use Rattle.ds_base.specs.declared.capture.Counts.{Counts}
+use Rattle.ds_base.specs.declared.summary.Summary.{Summary}
+use Rattle.key_select.specs.declared.tally.Tally.{Tally}
+use Rattle.key_select.specs.Fates.{accepted_of, counts_of}
 use Rattle.pcap_reader.specs.Format.{bad_at}
 use Rattle.pcap_reader.specs.Good.{good_records, good_bad, good_cut}
 use Rattle.pcap_reader.specs.Reader.{Reader, IsWaiting}
+use Rattle.summary_spec.specs.Declaration.{Declared}
 use Rattle.dshark_cli.specs.declared.fault.RunFault.{RunFault}
-use Rattle.dshark_cli.specs.declared.fault.RunFault.TheVariants.{Usage, Malformed, ReadFault, WriteFault, OutOfMemory}
-use Rattle.dshark_cli.specs.declared.gather.Gathered.{Gathered}
-use Rattle.dshark_cli.specs.declared.tally.Tally.{Tally}
+use Rattle.dshark_cli.specs.declared.fault.RunFault.TheVariants.{Usage, BadJob, Malformed, ReadFault, WriteFault, OutOfMemory}
 use Rattle.dshark_cli.specs.Gathering.{HasTaken}
-use Rattle.dshark_cli.specs.Tally.{Tallies}
 
 -- The source was read to its end: all records of what it gave were taken up, and where it tells, that is
 -- the whole file.
-pub record IsReadWhole (field : FieldRef) (before after : SourceSeen) (reader : Reader) (tally : Tally) : Type 0 where
+pub record IsReadWhole (job : Declared) (capture : ℕ) (before after : SourceSeen) (reader : Reader) (tally : Tally) (start list : List Summary) : Type 0 where
   pub faults : after.faults ≡ before.faults
   pub waiting : IsWaiting reader
   pub given : List ℕ
-  pub taken : HasTaken field reader tally given
+  pub taken : HasTaken job capture reader tally start list given
   pub whole : IsTrue before.told → before.whole ≡ given
 
 -- Why it was not: the first malformed place, a failed read, or no memory.
-abbrev pub StopsRead : SourceSeen → SourceSeen → RunFault → Type 0
-StopsRead before after (Usage place) = ⊥
-StopsRead before after (Malformed capture at what) =
-    (after.faults ≡ before.faults) × (capture ≡ 0) × (IsTrue before.told → good_bad before.whole ≡ Some (bad_at at what))
-StopsRead before after (ReadFault file) = (file ≡ 0) × Rose before.faults after.faults
-StopsRead before after WriteFault = ⊥
-StopsRead before after OutOfMemory = after.faults ≡ before.faults
+abbrev pub StopsRead : (capture : ℕ) → SourceSeen → SourceSeen → RunFault → Type 0
+StopsRead capture before after (Usage place) = ⊥
+StopsRead capture before after (BadJob fault) = ⊥
+StopsRead capture before after (Malformed c at what) =
+    (after.faults ≡ before.faults) × (c ≡ capture) × (IsTrue before.told → good_bad before.whole ≡ Some (bad_at at what))
+StopsRead capture before after (ReadFault file) = (file ≡ 0) × Rose before.faults after.faults
+StopsRead capture before after WriteFault = ⊥
+StopsRead capture before after OutOfMemory = after.faults ≡ before.faults
 
--- What was gathered of a whole capture file that is not malformed.
-pub record IsGathered (field : FieldRef) (gathered : Gathered) (bytes : List ℕ) : Type 0 where
+-- What was gathered of a whole capture file that is not malformed: behind `start` the list has the accepted
+-- summaries, and the counts say how the records fared.
+pub record IsGathered (job : Declared) (capture : ℕ) (start list : List Summary) (fared : Counts) (bytes : List ℕ) : Type 0 where
   pub sound : good_bad bytes ≡ None
-  pub tallies : Tallies field gathered.tally (good_records bytes)
-  pub cut : gathered.cut ≡ good_cut bytes
+  pub accepted : list ≡ start ++ accepted_of job capture (good_records bytes)
+  pub counts : fared ≡ counts_of job capture (good_records bytes) (good_cut bytes)
 
 -- What was gathered is that of what the source gave, and where it tells, that is the whole file.
-pub record GathersAll (field : FieldRef) (before after : SourceSeen) (gathered : Gathered) : Type 0 where
+pub record GathersAll (job : Declared) (capture : ℕ) (before after : SourceSeen) (start list : List Summary) (counts : Counts) : Type 0 where
   pub faults : after.faults ≡ before.faults
   pub given : List ℕ
-  pub all : IsGathered field gathered given
+  pub all : IsGathered job capture start list counts given
   pub whole : IsTrue before.told → before.whole ≡ given

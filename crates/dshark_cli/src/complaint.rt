@@ -5,6 +5,7 @@ ghost use Rattle.ds_base.specs.Outside.{SinkStays};
 ghost use Rattle.dshark_cli.specs.FaultLine.{what_text, fault_text, fault_line, owed_line};
 
 use crate::fault::RunFault;
+use crate::job_complaint::push_job;
 use crate::line::Line;
 use crate::output::write_all;
 use ds_base::{PcapFault, Sink};
@@ -38,22 +39,23 @@ fn line_of(fault: &RunFault) -> Line
 fn push_fault(line: &mut Line, fault: &RunFault)
     requires { length line.old ≤ 16 }
     ensures text { line.new ≡ line.old ++ fault_text fault.now }
-    ensures short { length line.new ≤ length line.old + 110 }
+    ensures short { length line.new ≤ length line.old + 170 }
 {
     match fault {
         RunFault::Usage { place } => {
             line.push(b"usage: word ");
-            line.push_number(u64::from(*place));
+            line.push_number(u128::from(*place));
         }
+        RunFault::BadJob(fault) => push_job(line, fault),
         RunFault::Malformed { at, what, .. } => {
             line.push(b"capture c: byte ");
-            line.push_number(*at);
+            line.push_number(u128::from(*at));
             line.push(b": ");
             push_what(line, what);
         }
         RunFault::ReadFault { file } => {
             line.push(b"read: file ");
-            line.push_number(u64::from(*file));
+            line.push_number(u128::from(*file));
         }
         RunFault::WriteFault => line.push(b"write"),
         RunFault::OutOfMemory => line.push(b"memory"),
@@ -64,7 +66,7 @@ fn push_fault(line: &mut Line, fault: &RunFault)
 fn push_what(line: &mut Line, what: &PcapFault)
     requires { length line.old ≤ 80 }
     ensures text { line.new ≡ line.old ++ what_text what.now }
-    ensures short { length line.new ≤ length line.old + 60 }
+    ensures short { length line.new ≤ length line.old + 100 }
 {
     match what {
         PcapFault::PcapNg => line.push(b"pcapng"),
@@ -72,19 +74,19 @@ fn push_what(line: &mut Line, what: &PcapFault)
         PcapFault::ShortHeader { .. } => line.push(b"short header"),
         PcapFault::Version { major, minor } => {
             line.push(b"version ");
-            line.push_number(u64::from(*major));
+            line.push_number(u128::from(*major));
             line.push(b".");
-            line.push_number(u64::from(*minor));
+            line.push_number(u128::from(*minor));
         }
         PcapFault::LinkType { word } => {
             line.push(b"link type ");
-            line.push_number(u64::from(*word));
+            line.push_number(u128::from(*word));
         }
         PcapFault::TooLong { number, len } => {
             line.push(b"record ");
-            line.push_number(*number);
+            line.push_number(u128::from(*number));
             line.push(b" length ");
-            line.push_number(u64::from(*len));
+            line.push_number(u128::from(*len));
         }
         PcapFault::TooMany => line.push(b"records"),
     }

@@ -1,6 +1,5 @@
-ghost use Rattle.std.specs.Prelude.{◌≡◌};
-
 use ds_base::PcapFault;
+use summary_spec::JobFault;
 
 /// Why a run did not end Ok.
 #[derive(Clone, Copy, Debug, PartialEq, Eq)]
@@ -10,6 +9,8 @@ pub enum RunFault {
     Usage {
         place: u32,
     },
+    /// The job was read and is refused: its first fault.
+    BadJob(JobFault),
     /// This capture is malformed: its first malformed place, and what is wrong there.
     Malformed {
         capture: u32,

@@ -1,12 +1,13 @@
-ghost use Rattle.std.specs.Prelude.{◌≡◌, ◌+◌, ◌≤◌, ◌<◌, ◌++◌, [], length};
+ghost use Rattle.std.specs.Prelude.{◌≡◌, ◌+◌, ◌≤◌, ◌++◌, [], length};
 ghost use Rattle.std.specs.Fmt.{decimal};
 
+use itoa::Buffer;
 use std::marker::Model;
 
-/// A line of at most 160 bytes, of fixed size: it takes no memory. Contracts see its bytes.
+/// A line of at most 200 bytes, of fixed size: it takes no memory. Contracts see its bytes.
 #[derive(Drop)]
 pub struct Line {
-    bytes: [u8; 160],
+    bytes: [u8; 200],
     len: usize,
 }
 
@@ -17,7 +18,7 @@ impl Model for Line {
 
     ghost view = { λ line. take line.len line.bytes };
 
-    ghost invariant = { λ line. (line.len ≤ 160) × (length line.bytes ≡ 160) };
+    ghost invariant = { λ line. (line.len ≤ 200) × (length line.bytes ≡ 200) };
 }
 
 impl Line {
@@ -26,7 +27,7 @@ impl Line {
         ensures { result ≡ [] }
     {
         Line {
-            bytes: [0; 160],
+            bytes: [0; 200],
             len: 0,
         }
     }
@@ -40,7 +41,7 @@ impl Line {
 
     /// Puts a piece at the end.
     pub fn push(&mut self, piece: &[u8])
-        requires { length self.old + length piece.now ≤ 160 }
+        requires { length self.old + length piece.now ≤ 200 }
         ensures { self.new ≡ self.old ++ piece.now }
     {
         let end = self.len + piece.len();
@@ -49,21 +50,12 @@ impl Line {
     }
 
     /// Puts a number in decimal at the end.
-    pub fn push_number(&mut self, number: u64)
-        requires { length self.old + 20 ≤ 160 }
+    pub fn push_number(&mut self, number: u128)
+        requires { length self.old + 40 ≤ 200 }
         ensures text { self.new ≡ self.old ++ decimal number }
-        ensures short { length self.new ≤ length self.old + 20 }
+        ensures short { length self.new ≤ length self.old + 40 }
     {
-        let mut digits = [0u8; 20];
-        let mut start = 20;
-        let mut left = number;
-        'digits: while left >= 10 {
-            start -= 1;
-            digits[start] = b'0' + (left % 10) as u8;
-            left /= 10;
-        }
-        start -= 1;
-        digits[start] = b'0' + left as u8;
-        self.push(&digits[start..]);
+        let mut digits = Buffer::new();
+        self.push(digits.format(number).as_bytes());
     }
 }

@@ -3,20 +3,27 @@
 //! the real files and streams and ends with its status.
 #![tactic(auto)]
 
+mod check;
+#[cfg(test)]
+mod check_tests;
 mod complaint;
 mod count;
 mod ends;
 mod fault;
 mod gather;
+mod job_complaint;
+mod job_file;
 mod line;
 mod output;
+mod printer;
 mod report;
-mod tally;
+mod stack;
+mod stack_lines;
+#[cfg(test)]
+mod stack_tests;
 #[cfg(test)]
 mod tests;
-mod texts;
 mod tool;
-mod words;
 
 use complaint::complain;
 use ds_base::{ListChooser, OpenGate};

@@ -13,25 +13,25 @@ use std::thread::Threads;
 
 /// What a run left: its status, its fault, and what stands on the output and the standard error.
 #[derive(Drop)]
-struct Left {
-    status: u8,
-    fault: Option<RunFault>,
-    out: Vec<u8>,
-    err: Vec<u8>,
+pub(crate) struct Left {
+    pub(crate) status: u8,
+    pub(crate) fault: Option<RunFault>,
+    pub(crate) out: Vec<u8>,
+    pub(crate) err: Vec<u8>,
 }
 
 /// How the outside behaves: bytes a read and a write, and the numbers of a read, of a write and of a
 /// write to the standard error that fail.
 #[derive(Clone, Copy)]
-struct Outside {
-    read: u32,
-    write: u32,
-    failing_read: Option<u32>,
-    failing_write: Option<u32>,
-    failing_complaint: Option<u32>,
+pub(crate) struct Outside {
+    pub(crate) read: u32,
+    pub(crate) write: u32,
+    pub(crate) failing_read: Option<u32>,
+    pub(crate) failing_write: Option<u32>,
+    pub(crate) failing_complaint: Option<u32>,
 }
 
-const CALM: Outside = Outside {
+pub(crate) const CALM: Outside = Outside {
     read: 4096,
     write: 4096,
     failing_read: None,
@@ -77,7 +77,7 @@ fn folder(alloc: Global, capture: &[u8], outside: Outside) -> Result<MemFolder, 
     Ok(MemFolder::new(alloc, files, outside.read.max(1), failing))
 }
 
-fn run<R: Threads + Sync>(
+pub(crate) fn run<R: Threads + Sync>(
     rt: &R,
     alloc: Global,
     line: &str,
@@ -112,12 +112,12 @@ fn run<R: Threads + Sync>(
 }
 
 /// The file header of a capture: little-endian microseconds on Ethernet.
-const HEADER: [u8; 24] = [
+pub(crate) const HEADER: [u8; 24] = [
     0xD4, 0xC3, 0xB2, 0xA1, 2, 0, 4, 0, 0, 0, 0, 0, 0, 0, 0, 0, 0, 0, 4, 0, 1, 0, 0, 0,
 ];
 
 /// An Ethernet frame with IPv4 and UDP: identification 7 and time to live 64.
-const PACKET: [u8; 42] = [
+pub(crate) const PACKET: [u8; 42] = [
     2, 0, 0, 0, 0, 2, 2, 0, 0, 0, 0, 1, 8, 0, 0x45, 0, 0, 0x1C, 0, 7, 0, 0, 64, 0x11, 0, 0, 10, 0,
     0, 1, 10, 0, 0, 2, 4, 0xD2, 0, 0x35, 0, 8, 0, 0,
 ];
@@ -257,8 +257,8 @@ fn each_fault_has_its_status_and_its_line(rt: HostRuntime) -> Result<(), Fail> {
     );
     assert!(rt; long.status == 2 && long.out.is_empty());
     let usage = run(&rt, alloc, "count ipv4[0].nosuch 1 a", one.as_slice(), CALM)?;
-    assert_eq!(rt; usage.fault, Some(RunFault::Usage { place: 0 }));
-    assert!(rt; usage.status == 1 && usage.err.as_slice() == b"dshark: usage: word 0\n".as_slice());
+    assert_eq!(rt; usage.fault, Some(RunFault::Usage { place: 1 }));
+    assert!(rt; usage.status == 1 && usage.err.as_slice() == b"dshark: usage: word 1\n".as_slice());
     let missing = run(&rt, alloc, "count ipv4[0].id 1 b", one.as_slice(), CALM)?;
     assert_eq!(rt; missing.fault, Some(RunFault::ReadFault { file: 0 }));
     assert!(rt;

@@ -1,17 +1,22 @@
-ghost use Rattle.std.specs.Prelude.{◌≡◌, ◌⊎◌, ◌++◌, ℕ, map, string_bytes, Some, None, IsTrue, IsNone};
+ghost use Rattle.std.specs.Prelude.{◌≡◌, ◌⊎◌, ◌++◌, ℕ, map, string_bytes, Some, None, Err, IsTrue, OnOk, MatchResult};
 ghost use Rattle.ds_base.specs.Faults.{Rose, IsQuiet};
 ghost use Rattle.ds_base.specs.Outside.{FolderStays, SinkStays};
 ghost use Rattle.ds_base.specs.declared.capture.PcapFault.{PcapFault};
 ghost use Rattle.ds_base.specs.Gain.{GainsPrefix};
+ghost use Rattle.command_words.specs.Command.{asked_of};
+ghost use Rattle.command_words.specs.Words.{Asked, Accepts, IsPlace};
+ghost use Rattle.job_values.specs.declared.fault.JobFault.{JobFault};
 ghost use Rattle.dshark_cli.specs.FaultLine.{owed_line};
-ghost use Rattle.dshark_cli.specs.Run.{status_of};
-ghost use Rattle.dshark_cli.specs.Tool.{NothingFailed, IsWhole, IsPrefixOfDue, AsksMalformed, AsksUnread, AsksSound, Ends};
-ghost use Rattle.dshark_cli.specs.Words.{Asked, Asks, Give};
+ghost use Rattle.dshark_cli.specs.Run.{status_of, due, EndsOk, EndsBy, IsInLimits};
+ghost use Rattle.dshark_cli.specs.Tool.{NothingFailed, IsWhole, IsPrefixOfDue, AsksJob, AsksBadJob, AsksMalformed, AsksStreamed, AsksUnread, AsksSound, Ends};
 
+use crate::check::run_check;
 use crate::complaint::complain;
 use crate::count::run_count;
 use crate::fault::RunFault;
-use crate::words::read_words;
+use crate::output::write_all;
+use crate::stack::run_stack;
+use command_words::{Command, HELP, VERSION_LINE, read_words};
 use ds_base::{Chooser, Folder, Gate, Sink};
 use std::alloc::Global;
 use std::thread::Threads;
@@ -23,7 +28,7 @@ pub struct Ended {
     pub fault: Option<RunFault>,
 }
 
-/// Runs the command that the words ask for: `count FIELD WINDOW CAPTURE`. It always returns.
+/// Runs the command that the words ask for. It always returns.
 pub fn run_tool<R: Threads + Sync, F: Folder, O: Sink + Send, E: Sink, C: Chooser, G: Gate + Sync>(
     _rt: &R,
     alloc: Global,
@@ -38,9 +43,9 @@ pub fn run_tool<R: Threads + Sync, F: Folder, O: Sink + Send, E: Sink, C: Choose
     ensures folder_stays { FolderStays (F.seen folder.old) (F.seen folder.new) }
 
     // The words ask at most one thing.
-    ensures one { (a b : Asked) → Asks (map string_bytes words.now) a → Asks (map string_bytes words.now) b → a ≡ b }
+    ensures one { (a b : Asked) → Accepts (map string_bytes words.now) a → Accepts (map string_bytes words.now) b → a ≡ b }
 
-    // Ok comes only where nothing failed, and where the outside tells, the whole report was written.
+    // Ok comes only where nothing failed, and where the outside tells, the whole text was written.
     ensures ok_is_quiet { result.fault ≡ None → NothingFailed (F.seen folder.old) (F.seen folder.new) (O.seen out.old) (O.seen out.new) }
     ensures ok_is_whole { result.fault ≡ None → IsTrue (F.seen folder.old).told → IsTrue (O.seen out.old).told →
         IsWhole (map string_bytes words.now) (F.seen folder.old) (O.seen out.old) (O.seen out.new) }
@@ -50,10 +55,18 @@ pub fn run_tool<R: Threads + Sync, F: Folder, O: Sink + Send, E: Sink, C: Choose
         IsPrefixOfDue (map string_bytes words.now) (F.seen folder.old) (O.seen out.old) (O.seen out.new) }
 
     // Each fault has its cause.
-    ensures usage { (place : ℕ) → result.fault ≡ Some (RunFault.Usage place) → (place ≡ 0) × Give (map string_bytes words.now) None }
-    ensures refused { Give (map string_bytes words.now) None → result.fault ≡ Some (RunFault.Usage 0) }
+    ensures usage { (place : ℕ) → result.fault ≡ Some (RunFault.Usage place) → IsPlace (map string_bytes words.now) place }
+    ensures refused { (place : ℕ) → IsPlace (map string_bytes words.now) place → result.fault ≡ Some (RunFault.Usage place) }
+    ensures bad_job { (fault : JobFault) → result.fault ≡ Some (RunFault.BadJob fault) →
+        AsksJob (map string_bytes words.now) × (IsTrue (F.seen folder.old).told → AsksBadJob (map string_bytes words.now) (F.seen folder.old) fault) }
+    ensures job_refused { (fault : JobFault) → IsTrue (F.seen folder.old).told →
+        AsksBadJob (map string_bytes words.now) (F.seen folder.old) fault → IsQuiet (F.seen folder.old).faults (F.seen folder.new).faults →
+        (result.fault ≡ Some (RunFault.BadJob fault)) ⊎ (result.fault ≡ Some RunFault.OutOfMemory) }
     ensures malformed { (capture at : ℕ) (what : PcapFault) → result.fault ≡ Some (RunFault.Malformed capture at what) →
         (capture ≡ 0) × (IsTrue (F.seen folder.old).told → AsksMalformed (map string_bytes words.now) (F.seen folder.old) at what) }
+    ensures streamed { (capture at : ℕ) (what : PcapFault) → result.fault ≡ Some (RunFault.Malformed capture at what) →
+        IsTrue (F.seen folder.old).told → IsTrue (O.seen out.old).told →
+        AsksStreamed (map string_bytes words.now) (F.seen folder.old) (O.seen out.old) (O.seen out.new) }
     ensures unread { (file : ℕ) → result.fault ≡ Some (RunFault.ReadFault file) →
         (file ≡ 0) × (IsTrue (F.seen folder.old).told → AsksUnread (map string_bytes words.now) (F.seen folder.old) (F.seen folder.new)) }
     ensures unwritten { result.fault ≡ Some RunFault.WriteFault → Rose (O.seen out.old).faults (O.seen out.new).faults }
@@ -90,15 +103,60 @@ fn run<F: Folder, O: Sink>(
     ensures folder_stays { FolderStays (F.seen folder.old) (F.seen folder.new) }
     ensures prefix { IsTrue (F.seen folder.old).told → IsTrue (O.seen out.old).told →
         IsPrefixOfDue (map string_bytes words.now) (F.seen folder.old) (O.seen out.old) (O.seen out.new) }
-    ensures one { (a b : Asked) → Asks (map string_bytes words.now) a → Asks (map string_bytes words.now) b → a ≡ b }
+    ensures one { (a b : Asked) → Accepts (map string_bytes words.now) a → Accepts (map string_bytes words.now) b → a ≡ b }
+    ensures refused { (place : ℕ) → IsPlace (map string_bytes words.now) place → result ≡ Some (RunFault.Usage place) }
     ensures ends { Ends (map string_bytes words.now) (F.seen folder.old) (F.seen folder.new) (O.seen out.old) (O.seen out.new) result }
 {
-    let Some(count) = read_words(words) else {
-        return Some(RunFault::Usage { place: 0 });
-    };
-    match run_count(alloc, &count, folder, out) {
-        Ok(()) => None,
-        Err(fault) => Some(fault),
+    match read_words(words) {
+        Err(bad) => Some(RunFault::Usage { place: bad.place }),
+        Ok(command) => match run_command(alloc, &command, folder, out) {
+            Ok(()) => None,
+            Err(fault) => Some(fault),
+        },
+    }
+}
+
+/// Runs a command.
+fn run_command<F: Folder, O: Sink>(
+    alloc: Global,
+    command: &Command<'_>,
+    folder: &mut F,
+    out: &mut O,
+) -> Result<(), RunFault>
+    requires { IsInLimits (asked_of command.now) }
+    ensures out_stays { SinkStays (O.seen out.old) (O.seen out.new) }
+    ensures folder_stays { FolderStays (F.seen folder.old) (F.seen folder.new) }
+    ensures prefix { IsTrue (F.seen folder.old).told → IsTrue (O.seen out.old).told →
+        GainsPrefix (O.seen out.old).written (O.seen out.new).written (due (Some (asked_of command.now)) (F.seen folder.old)) }
+    ensures ends { MatchResult result
+        (λ _. EndsOk (asked_of command.now) (F.seen folder.old) (F.seen folder.new) (O.seen out.old) (O.seen out.new))
+        (EndsBy (asked_of command.now) (F.seen folder.old) (F.seen folder.new) (O.seen out.old) (O.seen out.new)) }
+{
+    match command {
+        Command::Count {
+            field,
+            window,
+            file,
+        } => run_count(alloc, *field, *window, file, folder, out),
+        Command::Stack { port, field, file } => run_stack(alloc, *port, *field, file, folder, out),
+        Command::Check { job } => run_check(alloc, job, folder, out),
+        Command::Help => write_text(out, HELP),
+        Command::Version => write_text(out, VERSION_LINE),
+    }
+}
+
+/// Writes a text that needs no file.
+fn write_text<O: Sink>(out: &mut O, text: &str) -> Result<(), RunFault>
+    ensures stays { SinkStays (O.seen out.old) (O.seen out.new) }
+    ensures faults { MatchResult result
+        (λ _. (O.seen out.new).faults ≡ (O.seen out.old).faults)
+        (λ fault. (fault ≡ RunFault.WriteFault) × Rose (O.seen out.old).faults (O.seen out.new).faults) }
+    ensures prefix { IsTrue (O.seen out.old).told → GainsPrefix (O.seen out.old).written (O.seen out.new).written text.now }
+    ensures whole { IsTrue (O.seen out.old).told → OnOk result ((O.seen out.new).written ≡ (O.seen out.old).written ++ text.now) }
+{
+    match write_all(out, text.as_bytes()) {
+        Ok(()) => Ok(()),
+        Err(_) => Err(RunFault::WriteFault),
     }
 }
 
@@ -109,6 +167,7 @@ fn status(fault: &Option<RunFault>) -> u8
     match fault {
         None => 0,
         Some(RunFault::Usage { .. }) => 1,
+        Some(RunFault::BadJob(_)) => 1,
         Some(RunFault::Malformed { .. }) => 2,
         Some(RunFault::ReadFault { .. }) => 3,
         Some(RunFault::WriteFault) => 4,

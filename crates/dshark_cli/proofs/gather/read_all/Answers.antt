@@ -10,7 +10,7 @@ returns-then-n-eq0-clause-ends g c = record {
   faults = c.in-Ok.ensures.faults ∙ c.pieces.invariant.faults;
   waiting = c.in_ok-drain.ensures.waiting;
   given = c.pieces.invariant.taken.0;
-  taken = c.in_ok-drain.ensures.all c.args.tally.now.field c.pieces.invariant.taken.0 c.pieces.invariant.taken.1 c.pieces.invariant.taken.3 c.pieces.invariant.taken.4;
+  taken = c.in_ok-drain.ensures.all c.args.capture c.args.accepted.now.items c.pieces.invariant.taken.0 c.pieces.invariant.taken.1 c.pieces.invariant.taken.3 c.pieces.invariant.taken.4;
   whole = λ told.
       let t = c.pieces.invariant.taken in
       let telling : IsTrue (g.S.Source.seen c.pieces.source).told = rw c.pieces.invariant.stays.told told in
@@ -28,16 +28,17 @@ pieces-preserved g c = record {
   taken =
       let seen = g.S.Source.seen in
       let t = c.pieces.invariant.taken in
-      let taken = c.in_ok-drain.ensures.all c.args.tally.now.field t.0 t.1 t.3 t.4 in (
+      let taken = c.in_ok-drain.ensures.all c.args.capture c.args.accepted.now.items t.0 t.1 t.3 t.4 in (
         t.0 ++ take c.in-Ok.n c.read.new.buf,
         good_records t.0,
         (λ told.
             let telling : IsTrue (seen c.pieces.source).told = rw c.pieces.invariant.stays.told told in
             t.2 told ∙ ap (λ xs. t.0 ++ xs) (c.in-Ok.ensures.moved telling) ∙ sym (append_assoc t.0 (take c.in-Ok.n c.read.new.buf) (seen c.read.new.self).left)),
         c.in-Ok-feed.ensures.stands t.0 (good_records t.0) taken.stands,
-        taken.tallies,
+        taken.collects,
       );
   given = c.in_ok-drain.ensures.given ∙ sym c.in-Ok-feed.ensures.given;
+  capture = c.in_ok-drain.ensures.capture ∙ c.pieces.invariant.capture;
   few =
       let fed : bytes_fed c.feed.new.self ≡ bytes_fed c.drain.new.reader + length (take c.in-Ok.n c.read.new.buf) = c.in-Ok-feed.ensures.fed in
       omega (arith, fed, c.in_ok-drain.ensures.bounded, c.in-Ok.ensures.within, c.requires.few, c.pieces.auto.buffer, length-take c.in-Ok.n c.read.new.buf);

@@ -1,29 +1,30 @@
-use Rattle.std.proofs.Common.{Option, Some, sym, subst, map, string_bytes, Global}
+use Rattle.std.proofs.Common.{rules, Option, sym, subst, map, string_bytes, Global}
+use Rattle.command_words.specs.Words.{Asked}
+use Rattle.command_words.specs.Command.{asked_of}
 use Rattle.ds_base.specs.Gain.{GainsPrefix}
 use Rattle.dshark_cli.specs.Run.{due}
-use Rattle.dshark_cli.specs.Words.{Asked}
-use Rattle.dshark_cli.specs.Count.{asked_of}
-use Rattle.dshark_cli.proofs.Ending.{ends_by, same_asking}
+use Rattle.dshark_cli.proofs.Asking.{only_some, same_asking}
+use Rattle.dshark_cli.proofs.Ending.{refused_at}
+use Rattle.dshark_cli.proofs.Limits.{in_limits}
 use Rattle.dshark_cli.proofs.tool.run.Goals as goal
 
-pub returns-in_default-clause-one : goal.returns-in_default-clause-one
-returns-in_default-clause-one g c a b ha hb = same_asking a b _ (c.read_words.ensures.only (Some a) ha) (c.read_words.ensures.only (Some b) hb)
-
-pub returns-in-Ok-clause-one : goal.returns-in-Ok-clause-one
-returns-in-Ok-clause-one g c a b ha hb = same_asking a b _ (c.read_words.ensures.only (Some a) ha) (c.read_words.ensures.only (Some b) hb)
+pub run_command-requires : goal.run_command-requires
+run_command-requires g c = (search rules, in_limits (map (string_bytes {Z = Global}) c.args.words.now) (asked_of c.in-Ok.command) c.in-Ok.ensures.accepts)
 
 pub returns-in-Err-clause-one : goal.returns-in-Err-clause-one
-returns-in-Err-clause-one g c a b ha hb = same_asking a b _ (c.read_words.ensures.only (Some a) ha) (c.read_words.ensures.only (Some b) hb)
+returns-in-Err-clause-one g c a b ha hb = absurd (c.in-Err.ensures.refused.none a ha)
 
-pub returns-in-Ok-clause-prefix : goal.returns-in-Ok-clause-prefix
-returns-in-Ok-clause-prefix g c folder out asked given =
-    let P : Option Asked → Type 0 = λ a. GainsPrefix (g.O.Sink.seen c.args.out.now).written (g.O.Sink.seen c.run_count.new.out).written (due a (g.F.Folder.seen c.args.folder.now)) in
-    subst P (sym (c.in-Some.ensures.only asked given)) (c.in-Ok.ensures.prefix folder out)
+pub returns-in-Err-clause-refused : goal.returns-in-Err-clause-refused
+returns-in-Err-clause-refused g c place h = refused_at (map (string_bytes {Z = Global}) c.args.words.now) c.in-Err.bad.place c.in-Err.ensures.one_place place h
 
-pub returns-in-Err-clause-prefix : goal.returns-in-Err-clause-prefix
-returns-in-Err-clause-prefix g c folder out asked given =
-    let P : Option Asked → Type 0 = λ a. GainsPrefix (g.O.Sink.seen c.args.out.now).written (g.O.Sink.seen c.run_count.new.out).written (due a (g.F.Folder.seen c.args.folder.now)) in
-    subst P (sym (c.in-Some.ensures.only asked given)) (c.in-Err.ensures.prefix folder out)
+pub returns-in-Ok-run_command-clause-one : goal.returns-in-Ok-run_command-clause-one
+returns-in-Ok-run_command-clause-one g c a b = same_asking (map (string_bytes {Z = Global}) c.args.words.now) (asked_of c.in-Ok.command) c.in-Ok.ensures.only a b
 
-pub returns-in-Err-clause-ends : goal.returns-in-Err-clause-ends
-returns-in-Err-clause-ends g c = ends_by (map (string_bytes {Z = Global}) c.args.words.now) (g.F.Folder.seen c.args.folder.now) (g.F.Folder.seen c.run_count.new.folder) (g.O.Sink.seen c.args.out.now) (g.O.Sink.seen c.run_count.new.out) (asked_of c.in-Some.count) c.in-Some.ensures.given c.in-Err.fault c.in-Err.ensures.ends
+pub returns-in-Err-run_command-clause-one : goal.returns-in-Err-run_command-clause-one
+returns-in-Err-run_command-clause-one g c a b = same_asking (map (string_bytes {Z = Global}) c.args.words.now) (asked_of c.in-Ok.command) c.in-Ok.ensures.only a b
+
+pub returns-in-Err-run_command-clause-prefix : goal.returns-in-Err-run_command-clause-prefix
+returns-in-Err-run_command-clause-prefix g c folder out asked given =
+    let P : Option Asked → Type 0 = λ a. GainsPrefix (g.O.Sink.seen c.args.out.now).written (g.O.Sink.seen c.run_command.new.out).written (due a (g.F.Folder.seen c.args.folder.now)) in
+    subst P (sym (only_some (map (string_bytes {Z = Global}) c.args.words.now) (asked_of c.in-Ok.command) c.in-Ok.ensures.accepts c.in-Ok.ensures.only asked given))
+    (c.in-Err-run_command.ensures.prefix folder out)

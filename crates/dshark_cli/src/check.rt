@@ -1,0 +1,48 @@
+ghost use Rattle.std.specs.Prelude.{◌≡◌, ◌++◌, Some, IsTrue, IfOk, MatchResult, codes};
+ghost use Rattle.command_words.specs.Words.Asked.{AskedCheck};
+ghost use Rattle.ds_base.specs.Gain.{GainsPrefix};
+ghost use Rattle.ds_base.specs.Outside.{FolderStays, SinkStays};
+ghost use Rattle.summary_spec.specs.Canonical.{canonical};
+ghost use Rattle.summary_spec.specs.Job.{declared_of};
+ghost use Rattle.dshark_cli.specs.Run.{EndsOk, EndsBy, due};
+
+use crate::fault::RunFault;
+use crate::job_file::read_job;
+use crate::output::write_all;
+use ds_base::{Folder, OutOfMemory, Sink, Text};
+use std::alloc::Global;
+use summary_spec::Job;
+
+/// Writes the canonical text of a job, on a line.
+pub fn run_check<F: Folder, O: Sink>(
+    alloc: Global,
+    file: &str,
+    folder: &mut F,
+    out: &mut O,
+) -> Result<(), RunFault>
+    ensures out_stays { SinkStays (O.seen out.old) (O.seen out.new) }
+    ensures folder_stays { FolderStays (F.seen folder.old) (F.seen folder.new) }
+    ensures prefix { IsTrue (F.seen folder.old).told → IsTrue (O.seen out.old).told →
+        GainsPrefix (O.seen out.old).written (O.seen out.new).written (due (Some (AskedCheck file.now)) (F.seen folder.old)) }
+    ensures ends { MatchResult result
+        (λ _. EndsOk (AskedCheck file.now) (F.seen folder.old) (F.seen folder.new) (O.seen out.old) (O.seen out.new))
+        (EndsBy (AskedCheck file.now) (F.seen folder.old) (F.seen folder.new) (O.seen out.old) (O.seen out.new)) }
+{
+    let job = read_job(alloc, file, folder)?;
+    let Ok(text) = line_of(alloc, &job) else {
+        return Err(RunFault::OutOfMemory);
+    };
+    match write_all(out, text.as_str().as_bytes()) {
+        Ok(()) => Ok(()),
+        Err(_) => Err(RunFault::WriteFault),
+    }
+}
+
+/// The canonical text of a job, and a newline.
+fn line_of(alloc: Global, job: &Job) -> Result<Text, OutOfMemory>
+    ensures { IfOk result (λ text. text.items ≡ canonical (declared_of job.now) ++ codes "\n") }
+{
+    let mut text = job.print(alloc)?;
+    text.push_str("\n")?;
+    Ok(text)
+}
