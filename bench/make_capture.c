@@ -1,15 +1,17 @@
-// make_capture FILE PACKETS [PAYLOAD] [COPIES]: writes a capture of UDP packets over IPv4 and Ethernet.
+// make_capture FILE PACKETS [PAYLOAD] [COPIES] [tunnels]: writes a capture of UDP packets over IPv4 and Ethernet.
 //
 // libpcap 2.4, little-endian, microseconds. Packet number p has the IPv4 identification p mod 65536 and is
 // captured COPIES times (default 1), 40 microseconds apart; packets begin 100 microseconds apart. PAYLOAD is
 // the number of bytes behind the UDP header (default 22, which makes frames of 64 bytes with the headers).
+// With `tunnels`, records are in turn the frame in VXLAN and its IPv4 packet in GRE with a key, each over IPv4 and
+// Ethernet of their own (114 and 92 bytes of frame for a payload of 22).
 // The records stand in the order of their times, so the file grows as it is written and needs no memory.
 #include <stdint.h>
 #include <stdio.h>
 #include <stdlib.h>
 #include <string.h>
 
-enum { ETH = 14, IPV4 = 20, UDP = 8, RECORD = 16, LONGEST = 1400, MOST_COPIES = 64, STEP = 100, APART = 40 };
+enum { ETH = 14, IPV4 = 20, UDP = 8, VXLAN = 8, GRE = 8, OUTER = ETH + IPV4 + UDP + VXLAN, RECORD = 16, LONGEST = 1400, MOST_COPIES = 64, STEP = 100, APART = 40 };
 
 static void little(uint8_t *at, uint32_t n) {
     for (int i = 0; i < 4; i++) at[i] = (uint8_t)(n >> (8 * i));
@@ -39,9 +41,40 @@ static int precedes(struct copy a, struct copy b) {
     return a.time != b.time ? a.time < b.time : a.packet < b.packet;
 }
 
+// Fills in the header of IPv4 between two hosts, without its identification and checksum.
+static void fill_ipv4(uint8_t *ip, uint32_t length, uint8_t protocol, const char *hosts) {
+    memset(ip, 0, IPV4);
+    ip[0] = 0x45;
+    big16(ip + 2, length);
+    ip[8] = 64;
+    ip[9] = protocol;
+    memcpy(ip + 12, hosts, 8);
+}
+
+// Makes what stands in front of an inner frame of this length, in VXLAN of network 100, or in front of the packet in
+// it, in GRE with key 5. Answers how many bytes of the inner frame are left out.
+static uint32_t make_outer(uint8_t *outer, uint32_t inner, int in_vxlan) {
+    uint8_t *ip = outer + ETH, *behind = ip + IPV4;
+    memcpy(outer, "\x02\x00\x00\x00\x00\x04\x02\x00\x00\x00\x00\x03\x08\x00", ETH);
+    if (in_vxlan) {
+        fill_ipv4(ip, IPV4 + UDP + VXLAN + inner, 17, "\x0A\x01\x00\x01\x0A\x01\x00\x02");
+        big16(behind, 49152);
+        big16(behind + 2, 4789);
+        big16(behind + 4, UDP + VXLAN + inner);
+        big16(behind + 6, 0);
+        memcpy(behind + UDP, "\x08\x00\x00\x00\x00\x00\x64\x00", VXLAN);
+    } else {
+        fill_ipv4(ip, IPV4 + GRE + inner - ETH, 47, "\x0A\x01\x00\x01\x0A\x01\x00\x02");
+        memcpy(behind, "\x20\x00\x08\x00\x00\x00\x00\x05", GRE);
+    }
+    big16(ip + 10, checksum(ip));
+    return in_vxlan ? 0 : ETH;
+}
+
 int main(int argc, char **argv) {
-    if (argc < 3 || argc > 5) {
-        fprintf(stderr, "usage: make_capture FILE PACKETS [PAYLOAD] [COPIES]\n");
+    int tunnels = argc == 6 && strcmp(argv[5], "tunnels") == 0;
+    if (argc < 3 || argc > 6 || (argc == 6 && !tunnels)) {
+        fprintf(stderr, "usage: make_capture FILE PACKETS [PAYLOAD] [COPIES] [tunnels]\n");
         return 1;
     }
     uint64_t packets = strtoull(argv[2], NULL, 10);
@@ -69,10 +102,7 @@ int main(int argc, char **argv) {
     little(record + 8, length);
     little(record + 12, length);
     memcpy(eth, "\x02\x00\x00\x00\x00\x02\x02\x00\x00\x00\x00\x01\x08\x00", ETH);
-    ip[0] = 0x45;
-    big16(ip + 2, IPV4 + UDP + payload);
-    ip[9] = 17;
-    memcpy(ip + 12, "\x0A\x00\x00\x01\x0A\x00\x00\x02", 8);
+    fill_ipv4(ip, IPV4 + UDP + payload, 17, "\x0A\x00\x00\x01\x0A\x00\x00\x02");
     big16(udp, 40000);
     big16(udp + 2, 9);
     big16(udp + 4, UDP + payload);
@@ -81,7 +111,7 @@ int main(int argc, char **argv) {
     // The packets that have copies to come: the newest begins the next one; at most MOST_COPIES overlap.
     struct copy open[MOST_COPIES + 1];
     int waiting = 0;
-    uint64_t begun = 0;
+    uint64_t begun = 0, written = 0;
     while (begun < packets || waiting > 0) {
         int least = -1;
         for (int i = 0; i < waiting; i++)
@@ -99,7 +129,20 @@ int main(int argc, char **argv) {
         ip[8] = (uint8_t)(64 - now->copy % 64);
         big16(ip + 10, 0);
         big16(ip + 10, checksum(ip));
-        fwrite(record, 1, RECORD + length, file);
+        if (tunnels) {
+            uint8_t outer[OUTER];
+            int in_vxlan = written % 2 == 0;
+            uint32_t left_out = make_outer(outer, length, in_vxlan);
+            uint32_t front = in_vxlan ? OUTER : ETH + IPV4 + GRE;
+            little(record + 8, front + length - left_out);
+            little(record + 12, front + length - left_out);
+            fwrite(record, 1, RECORD, file);
+            fwrite(outer, 1, front, file);
+            fwrite(eth + left_out, 1, length - left_out, file);
+        } else {
+            fwrite(record, 1, RECORD + length, file);
+        }
+        written++;
         now->copy++;
         now->time += APART;
         if (now->copy == copies) *now = open[--waiting];
