@@ -1,6 +1,6 @@
 # make demo      builds the proved program, and prints the report of the sample capture
 # make test      the gate: every proof, edit, test and program, then the repository's own checks
-# make install   puts the built program in PREFIX/bin
+# make install   puts the built program in PREFIX/bin, and its manual page in PREFIX/share/man/man1
 PREFIX ?= /usr/local
 SAMPLE = samples/one-link.pcap
 PROGRAM = crates/dshark_cli/out/dshark_cli
@@ -19,3 +19,5 @@ install:
 	@test -x $(PROGRAM) || { echo 'make install: run make demo first, which builds the program' >&2; exit 1; }
 	install -d '$(DESTDIR)$(PREFIX)/bin'
 	install -m 755 $(PROGRAM) '$(DESTDIR)$(PREFIX)/bin/dshark'
+	install -d '$(DESTDIR)$(PREFIX)/share/man/man1'
+	install -m 644 docs/dshark.1 '$(DESTDIR)$(PREFIX)/share/man/man1/dshark.1'
