@@ -1,15 +1,8 @@
 #!/usr/bin/env bash
 # Runs the program on real files and streams: each status but 6 (no memory), with its line on the standard error.
 #
-# The program is $DSHARK where that is set, and else the one that the gate or `make demo` built; nothing is built
-# here. It ends with 1 on a difference. It skips with a line, and ends with 0, where the program is missing.
-export LC_ALL=C
-
-cd "$(dirname "$0")/../.." || exit 2
-program=${DSHARK:-crates/dshark_cli/out/dshark_cli}
-[ -x "$program" ] || { echo "tests/ends/statuses.sh: skipped: $program is not built (make demo builds it, or set DSHARK)"; exit 0; }
-room=$(mktemp -d) || exit 2
-trap 'rm -rf "$room"' EXIT
+# It ends with 1 on a difference. It skips with a line, and ends with 0, where the program is missing.
+. "$(dirname "$0")/../begin.sh" tests/ends/statuses.sh || exit 2
 
 passed=0
 failed=0

@@ -11,16 +11,7 @@
 # It ends with 1 on a difference. It skips with a line, and ends with 0, where a tool or the program is missing.
 PACKAGES='python3-dpkt golang-github-google-gopacket-dev'
 BEFORE_IPV4='eth|raw|ethertype|vlan|ipv6|ipv6\.hopopts|ipv6\.routing|ipv6\.dstopts|ipv6\.fraghdr|gre'
-export LC_ALL=C
-
-cd "$(dirname "$0")/../.." || exit 2
-for tool in dpkg tshark capinfos awk; do
-    command -v "$tool" >/dev/null || { echo "tests/peers/count.sh: skipped: $tool is not installed"; exit 0; }
-done
-program=${DSHARK:-crates/dshark_cli/out/dshark_cli}
-[ -x "$program" ] || { echo "tests/peers/count.sh: skipped: $program is not built (make demo builds it, or set DSHARK)"; exit 0; }
-room=$(mktemp -d) || exit 2
-trap 'rm -rf "$room"' EXIT
+. "$(dirname "$0")/../begin.sh" tests/peers/count.sh dpkg tshark capinfos awk || exit 2
 
 passed=0
 failed=0

@@ -4,11 +4,7 @@
 #
 # The program is $DSHARK where that is set, and else the one that the gate or `make demo` built; nothing is built
 # here. It ends with 1 on a difference, and skips with a line, and ends with 0, where the program is missing.
-export LC_ALL=C
-
-cd "$(dirname "$0")/../.." || exit 2
-program=${DSHARK:-crates/dshark_cli/out/dshark_cli}
-[ -x "$program" ] || { echo "tests/peers/manual.sh: skipped: $program is not built (make demo builds it, or set DSHARK)"; exit 0; }
+. "$(dirname "$0")/../begin.sh" tests/peers/manual.sh || exit 2
 failed=0
 
 # The commands, as words behind the program's name, and the options.

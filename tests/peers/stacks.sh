@@ -13,16 +13,7 @@
 # tshark is told not to put fragments or segments together, and not to guess layers by their bytes.
 # It ends with 1 on a difference. It skips with a line, and ends with 0, where a tool or the program is missing.
 PACKAGES='python3-dpkt golang-github-google-gopacket-dev'
-export LC_ALL=C
-
-cd "$(dirname "$0")/../.." || exit 2
-for tool in dpkg tshark capinfos python3; do
-    command -v "$tool" >/dev/null || { echo "tests/peers/stacks.sh: skipped: $tool is not installed"; exit 0; }
-done
-program=${DSHARK:-crates/dshark_cli/out/dshark_cli}
-[ -x "$program" ] || { echo "tests/peers/stacks.sh: skipped: $program is not built (make demo builds it, or set DSHARK)"; exit 0; }
-room=$(mktemp -d) || exit 2
-trap 'rm -rf "$room"' EXIT
+. "$(dirname "$0")/../begin.sh" tests/peers/stacks.sh dpkg tshark capinfos python3 || exit 2
 
 # Writes one capture of Ethernet and one of raw IP into a folder.
 cat >"$room/make.py" <<'PYTHON'
