@@ -13,7 +13,7 @@ use Rattle.dshark_cli.specs.declared.fault.RunFault.{RunFault}
 use Rattle.dshark_cli.specs.declared.fault.RunFault.TheVariants.{Usage, BadJob, Malformed, ReadFault, WriteFault, OutOfMemory}
 use Rattle.dshark_cli.specs.Jobs.{HasJob, IsBadJob}
 use Rattle.dshark_cli.specs.Run.{EndsBy, HasSound, HasStreamed, IsMalformed, IsSound, IsUnread, capture_of, file_of, job_of}
-use Rattle.dshark_cli.specs.Tool.{Ends, IsWhole, AsksJob, AsksBadJob, AsksMalformed, AsksStreamed, AsksUnread}
+use Rattle.dshark_cli.specs.Tool.{Ends, IsWhole, AsksJob, AsksBadJob, AsksCapture, AsksMalformed, AsksStreamed, AsksFile, AsksUnread}
 
 -- a fault over accepted words
 pub ends_by : (words : List (List ℕ)) (before after : FolderSeen) (old new : SinkSeen) (asked : Asked) → Accepts words asked
@@ -41,8 +41,8 @@ bad_job_cause words before after old new fault h = ((h.0, h.1, h.2.0), λ told. 
 
 pub malformed_cause : (words : List (List ℕ)) (before after : FolderSeen) (old new : SinkSeen) (capture at : ℕ) (what : PcapFault)
     → Ends words before after old new (Some (Malformed capture at what))
-    → (capture ≡ 0) × (IsTrue before.told → AsksMalformed words before at what)
-malformed_cause words before after old new capture at what h = (h.2.0, λ told. (h.0, h.1, h.2.1 told))
+    → (capture ≡ 0) × AsksCapture words × (IsTrue before.told → AsksMalformed words before at what)
+malformed_cause words before after old new capture at what h = (h.2.0, (h.0, h.1, h.2.3), λ told. (h.0, h.1, h.2.1 told))
 
 pub streamed_before : (words : List (List ℕ)) (before after : FolderSeen) (old new : SinkSeen) (capture at : ℕ) (what : PcapFault)
     → Ends words before after old new (Some (Malformed capture at what)) → ((a b : Asked) → Accepts words a → Accepts words b → a ≡ b)
@@ -53,8 +53,8 @@ streamed_before words before after old new capture at what h one folder out aske
 
 pub unread_cause : (words : List (List ℕ)) (before after : FolderSeen) (old new : SinkSeen) (file : ℕ)
     → Ends words before after old new (Some (ReadFault file))
-    → (file ≡ 0) × (IsTrue before.told → AsksUnread words before after)
-unread_cause words before after old new file h = (h.2.0, λ told. (h.0, h.1, h.2.1 told))
+    → (file ≡ 0) × AsksFile words × (IsTrue before.told → AsksUnread words before after)
+unread_cause words before after old new file h = (h.2.0, (h.0, h.1, h.2.2), λ told. (h.0, h.1, h.2.1 told))
 
 -- a count that is quiet did not rise
 quiet_not_rose : (old new : ℕ) → IsQuiet old new → Rose old new → ⊥

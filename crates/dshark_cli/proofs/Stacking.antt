@@ -1,4 +1,4 @@
-use Rattle.std.proofs.Common.{ℕ, List, ◌++◌, ◌≡◌, ◌≢◌, ◌∙◌, Option, Some, Result, Ok, Err, MatchResult, sym, ap, inl, inr, arith}
+use Rattle.std.proofs.Common.{ℕ, List, ◌++◌, ◌≡◌, ◌≢◌, ◌∙◌, Option, Some, Result, Ok, Err, MatchResult, refl, sym, ap, inl, inr, arith}
 use Rattle.std.specs.Prelude.{IsTrue}
 use Rattle.std.proofs.lemmas.List.{append-nil}
 use Rattle.ds_base.specs.Faults.{Rose}
@@ -61,10 +61,12 @@ stack_ends asking name before after first last old new file back (Err (Malformed
       let f = file folder in
       h.3 f.0 out ∙ ap (λ text. old.written ++ text) (due_of_bad asking first.whole (bad_at at what) (h.2 f.0))
       ∙ ap (λ (o : Option (List ℕ)). old.written ++ due_from (AskedStack asking.port asking.field name) o) (sym f.1)),
+  refl,
 )
 stack_ends asking name before after first last old new file back (Err (ReadFault n)) h = (
   h.0,
-  λ folder. inl (rw (← back.quiet) (back.failed (rose_above last.faults (rw back.fresh at h.1)))),
+  (λ folder. inl (rw (← back.quiet) (back.failed (rose_above last.faults (rw back.fresh at h.1))))),
+  refl,
 )
 stack_ends asking name before after first last old new file back (Err WriteFault) h = (h, λ folder. tt)
 stack_ends asking name before after first last old new file back (Err OutOfMemory) h = tt

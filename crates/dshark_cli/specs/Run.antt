@@ -146,8 +146,10 @@ EndsBy asked before after old new (BadJob fault) = IsSome (job_of asked)
 EndsBy asked before after old new (Malformed capture at what) = (capture ≡ 0)
     × (IsTrue before.told → IsSomeAnd (capture_of asked) (λ name. IsMalformed before name at what))
     × (IsTrue before.told → IsTrue old.told → HasStreamed asked before old new)
+    × IsSome (capture_of asked)
 EndsBy asked before after old new (ReadFault file) = (file ≡ 0)
     × (IsTrue before.told → IsSomeAnd (file_of asked) (IsUnread before after))
+    × IsSome (file_of asked)
 EndsBy asked before after old new WriteFault = Rose old.faults new.faults
     × (IsTrue before.told → IfSome (job_of asked) (HasJob before))
 EndsBy asked before after old new OutOfMemory = Unit {0}

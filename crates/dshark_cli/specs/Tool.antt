@@ -33,6 +33,14 @@ abbrev pub AsksBadJob : List (List ℕ) → FolderSeen → JobFault → Type 0
 AsksBadJob words folder fault = (asked : Asked) × Accepts words asked
     × IsSomeAnd (job_of asked) (λ name. IsBadJob folder name fault)
 
+-- The words ask for a command that opens a capture.
+abbrev pub AsksCapture : List (List ℕ) → Type 0
+AsksCapture words = (asked : Asked) × Accepts words asked × IsSome (capture_of asked)
+
+-- The words ask for a command that opens a file.
+abbrev pub AsksFile : List (List ℕ) → Type 0
+AsksFile words = (asked : Asked) × Accepts words asked × IsSome (file_of asked)
+
 -- The words ask for a capture that has its first malformed place there.
 abbrev pub AsksMalformed : List (List ℕ) → FolderSeen → ℕ → PcapFault → Type 0
 AsksMalformed words folder at what = (asked : Asked) × Accepts words asked

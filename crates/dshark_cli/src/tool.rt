@@ -8,7 +8,7 @@ ghost use Rattle.command_words.specs.Words.{Asked, Accepts, IsPlace};
 ghost use Rattle.job_values.specs.declared.fault.JobFault.{JobFault};
 ghost use Rattle.dshark_cli.specs.FaultLine.{owed_line};
 ghost use Rattle.dshark_cli.specs.Run.{status_of, due, EndsOk, EndsBy, IsInLimits};
-ghost use Rattle.dshark_cli.specs.Tool.{NothingFailed, IsWhole, IsPrefixOfDue, AsksJob, AsksBadJob, AsksMalformed, AsksStreamed, AsksUnread, AsksSound, Ends};
+ghost use Rattle.dshark_cli.specs.Tool.{NothingFailed, IsWhole, IsPrefixOfDue, AsksJob, AsksBadJob, AsksCapture, AsksMalformed, AsksStreamed, AsksFile, AsksUnread, AsksSound, Ends};
 
 use crate::check::run_check;
 use crate::complaint::complain;
@@ -63,12 +63,12 @@ pub fn run_tool<R: Threads + Sync, F: Folder, O: Sink + Send, E: Sink, C: Choose
         AsksBadJob (map string_bytes words.now) (F.seen folder.old) fault → IsQuiet (F.seen folder.old).faults (F.seen folder.new).faults →
         (result.fault ≡ Some (RunFault.BadJob fault)) ⊎ (result.fault ≡ Some RunFault.OutOfMemory) }
     ensures malformed { (capture at : ℕ) (what : PcapFault) → result.fault ≡ Some (RunFault.Malformed capture at what) →
-        (capture ≡ 0) × (IsTrue (F.seen folder.old).told → AsksMalformed (map string_bytes words.now) (F.seen folder.old) at what) }
+        (capture ≡ 0) × AsksCapture (map string_bytes words.now) × (IsTrue (F.seen folder.old).told → AsksMalformed (map string_bytes words.now) (F.seen folder.old) at what) }
     ensures streamed { (capture at : ℕ) (what : PcapFault) → result.fault ≡ Some (RunFault.Malformed capture at what) →
         IsTrue (F.seen folder.old).told → IsTrue (O.seen out.old).told →
         AsksStreamed (map string_bytes words.now) (F.seen folder.old) (O.seen out.old) (O.seen out.new) }
     ensures unread { (file : ℕ) → result.fault ≡ Some (RunFault.ReadFault file) →
-        (file ≡ 0) × (IsTrue (F.seen folder.old).told → AsksUnread (map string_bytes words.now) (F.seen folder.old) (F.seen folder.new)) }
+        (file ≡ 0) × AsksFile (map string_bytes words.now) × (IsTrue (F.seen folder.old).told → AsksUnread (map string_bytes words.now) (F.seen folder.old) (F.seen folder.new)) }
     ensures unwritten { result.fault ≡ Some RunFault.WriteFault → Rose (O.seen out.old).faults (O.seen out.new).faults }
 
     // Where nothing is wrong and nothing failed, it ends Ok or for want of memory.
