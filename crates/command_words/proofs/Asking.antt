@@ -7,7 +7,7 @@ use Rattle.command_words.specs.declared.command.Command.{Command}
 use Rattle.command_words.specs.CommandTable.{command_word, plain_kinds, option_kind}
 use Rattle.command_words.specs.CommandLine.{Part, spell, plain_words, values_for, Have, AtMostOne, IsLine}
 use Rattle.command_words.specs.Words.{Asked, Accepts, Means, Says, NumberOr, FieldOr, command_of}
-use Rattle.command_words.specs.Words.Asked.{AskedCount, AskedStack, AskedCheck, AskedHelp, AskedVersion}
+use Rattle.command_words.specs.Words.Asked.{AskedCount, AskedStack, AskedCheck, AskedCentral, AskedHelp, AskedVersion}
 use Rattle.command_words.specs.Command.{asked_of}
 use Rattle.command_words.specs.Reading.{StandsFor, Stands, shown_words, shown_values, given_values}
 use Rattle.command_words.proofs.Names.{one_command}
@@ -19,6 +19,7 @@ same_means (AskedCount field window file) plain f g e m = m
 same_means (AskedStack port field file) plain f g e m =
     (m.0, subst (λ x. NumberOr 4789 x port) (e 0) m.1, subst (λ x. FieldOr x field) (e 1) m.2)
 same_means (AskedCheck job) plain f g e m = m
+same_means (AskedCentral job) plain f g e m = m
 same_means AskedHelp plain f g e m = m
 same_means AskedVersion plain f g e m = m
 

@@ -7,13 +7,13 @@ use Rattle.field_table.specs.FieldText.{field_text}
 use Rattle.command_words.specs.declared.kind.Kind.{Kind}
 use Rattle.command_words.specs.declared.kind.Kind.TheVariants.{Field, Number, File}
 use Rattle.command_words.specs.declared.table.Name.{Name}
-use Rattle.command_words.specs.declared.table.Name.TheVariants.{Count, Stack, Check, Help, Version}
+use Rattle.command_words.specs.declared.table.Name.TheVariants.{Count, Stack, Check, Central, Help, Version}
 use Rattle.command_words.specs.Kinds.{HasKind, IsNumber, IsRequired}
 use Rattle.command_words.specs.CommandTable.{command_word, plain_kinds, options_of, option_word, option_kind}
 use Rattle.command_words.specs.CommandLine.{Part, spell, plain_words, values_for, AreInForm, Have, AtMostOne, AreParts, IsLine}
 use Rattle.command_words.specs.CommandLine.Part.{Plain, Apart}
 use Rattle.command_words.specs.Words.{Asked, Begins, Says, NumberOr, FieldOr}
-use Rattle.command_words.specs.Words.Asked.{AskedCount, AskedStack, AskedCheck, AskedHelp, AskedVersion}
+use Rattle.command_words.specs.Words.Asked.{AskedCount, AskedStack, AskedCheck, AskedCentral, AskedHelp, AskedVersion}
 use Rattle.command_words.specs.Reading.{StandsFor, Goes}
 use Rattle.command_words.proofs.Parts.{plain_words-append, values_for-append, spell-append, form-append}
 use Rattle.command_words.proofs.KindLists.{have-append}
@@ -53,12 +53,14 @@ of_plain : (c : Name) → Samples (plain_kinds c)
 of_plain Count = (of_field, (of_window, (of_file, tt)))
 of_plain Stack = (of_file, tt)
 of_plain Check = (of_file, tt)
+of_plain Central = (of_file, tt)
 of_plain Help = tt
 of_plain Version = tt
 
 of_option : (c : Name) (k : ℕ) → k < length (options_of c) → Sample (option_kind c k)
 of_option Count k h = absurd (omega arith)
 of_option Check k h = absurd (omega arith)
+of_option Central k h = absurd (omega arith)
 of_option Help k h = absurd (omega arith)
 of_option Version k h = absurd (omega arith)
 of_option Stack zero h = of_port
@@ -152,10 +154,16 @@ of_check [] values h = absurd h
 of_check (a ∷ []) values h = record { asked = AskedCheck a; says = (refl, refl) }
 of_check (a ∷ b ∷ ws) values h = absurd h.1
 
+of_central : (ws : List (List ℕ)) (values : ℕ → List (List ℕ)) → Have (plain_kinds Central) ws → Something Central ws values
+of_central [] values h = absurd h
+of_central (a ∷ []) values h = record { asked = AskedCentral a; says = (refl, refl) }
+of_central (a ∷ b ∷ ws) values h = absurd h.1
+
 something : (c : Name) (ps : List Part) → IsLine c ps → Something c (plain_words ps) (λ k. values_for k ps)
 something Count ps h = of_count (plain_words ps) (λ k. values_for k ps) h.plain
 something Stack ps h = of_stack (plain_words ps) (λ k. values_for k ps) h.plain h.options
 something Check ps h = of_check (plain_words ps) (λ k. values_for k ps) h.plain
+something Central ps h = of_central (plain_words ps) (λ k. values_for k ps) h.plain
 something Help ps h = record { asked = AskedHelp; says = (refl, tt) }
 something Version ps h = record { asked = AskedVersion; says = (refl, tt) }
 

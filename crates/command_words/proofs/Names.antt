@@ -4,7 +4,7 @@ use Rattle.std.specs.Prelude.{◌==◌, if◌then◌else◌}
 use Rattle.std.specs.Str.{bytes_eq}
 use Rattle.std.proofs.lemmas.List.{append_cancel_left}
 use Rattle.command_words.specs.declared.table.Name.{Name}
-use Rattle.command_words.specs.declared.table.Name.TheVariants.{Count, Stack, Check, Help, Version}
+use Rattle.command_words.specs.declared.table.Name.TheVariants.{Count, Stack, Check, Central, Help, Version}
 use Rattle.command_words.specs.Kinds.{IsRequired}
 use Rattle.command_words.specs.CommandTable.{command_word, options_of, option_word}
 
@@ -28,6 +28,7 @@ record IsName (c : Name) (k : ℕ) : Type 0 where
 is_name : (c : Name) (k : ℕ) → k < length (options_of c) → IsName c k
 is_name Count k h = absurd (omega arith)
 is_name Check k h = absurd (omega arith)
+is_name Central k h = absurd (omega arith)
 is_name Help k h = absurd (omega arith)
 is_name Version k h = absurd (omega arith)
 is_name Stack zero h = record { rest = _; dashed = refl; alone = refl; joined = λ v. refl; cut = λ v. refl; found = refl }
@@ -79,17 +80,19 @@ abbrev number_of : Name → ℕ
 number_of Count = 0
 number_of Stack = 1
 number_of Check = 2
-number_of Help = 3
-number_of Version = 4
+number_of Central = 3
+number_of Help = 4
+number_of Version = 5
 
 words_of_commands : List (List ℕ)
-words_of_commands = command_word Count ∷ command_word Stack ∷ command_word Check ∷ command_word Help ∷ command_word Version ∷ []
+words_of_commands = command_word Count ∷ command_word Stack ∷ command_word Check ∷ command_word Central ∷ command_word Help ∷ command_word Version ∷ []
 
 found_command : (c : Name) → position (bytes_eq (command_word c)) words_of_commands ≡ Some (number_of c)
 unfolding words_of_commands
 found_command Count = refl
 found_command Stack = refl
 found_command Check = refl
+found_command Central = refl
 found_command Help = refl
 found_command Version = refl
 
@@ -97,6 +100,7 @@ same_number : (c d : Name) → number_of c ≡ number_of d → c ≡ d
 same_number Count Count e = refl
 same_number Stack Stack e = refl
 same_number Check Check e = refl
+same_number Central Central e = refl
 same_number Help Help e = refl
 same_number Version Version e = refl
 same_number c d e = absurd (omega (arith, e))

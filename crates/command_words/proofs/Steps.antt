@@ -7,7 +7,7 @@ use Rattle.std.proofs.lemmas.List.{append-nil, take_more_set, length-set, length
 use Rattle.command_words.specs.declared.kind.Kind.TheVariants.{File}
 use Rattle.command_words.specs.declared.kind.Kind.{Kind}
 use Rattle.command_words.specs.declared.table.Name.{Name}
-use Rattle.command_words.specs.declared.table.Name.TheVariants.{Count, Stack, Check, Help, Version}
+use Rattle.command_words.specs.declared.table.Name.TheVariants.{Count, Stack, Check, Central, Help, Version}
 use Rattle.command_words.specs.Kinds.{HasKind, IsRequired}
 use Rattle.command_words.specs.CommandTable.{plain_kinds, options_of, option_word, option_kind}
 use Rattle.command_words.specs.CommandLine.{Part, plain_words, values_for, AtMostOne, AreParts}
@@ -161,6 +161,7 @@ pub few_words : (c : Name) → length (plain_kinds c) ≤ 3
 few_words Count = omega arith
 few_words Stack = omega arith
 few_words Check = omega arith
+few_words Central = omega arith
 few_words Help = omega arith
 few_words Version = omega arith
 
@@ -168,6 +169,7 @@ pub few_options : (c : Name) → length (options_of c) ≤ 2
 few_options Count = omega arith
 few_options Stack = omega arith
 few_options Check = omega arith
+few_options Central = omega arith
 few_options Help = omega arith
 few_options Version = omega arith
 

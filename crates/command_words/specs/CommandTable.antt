@@ -3,7 +3,7 @@ use Rattle.std.specs.Prelude.{ℕ, List, [], ◌∷◌, codes, map, slice_index_
 use Rattle.command_words.specs.declared.kind.Kind.{Kind}
 use Rattle.command_words.specs.declared.kind.Kind.TheVariants.{Field, Number, File}
 use Rattle.command_words.specs.declared.table.Name.{Name}
-use Rattle.command_words.specs.declared.table.Name.TheVariants.{Count, Stack, Check, Help, Version}
+use Rattle.command_words.specs.declared.table.Name.TheVariants.{Count, Stack, Check, Central, Help, Version}
 
 -- the command's word; what the words that it needs may be, in order; and the word of each of its
 -- options with what the option's value may be
@@ -25,6 +25,7 @@ table_row Stack = record {
   options = (codes "--port", Number 1 65535) ∷ (codes "--field", Field) ∷ [];
 }
 table_row Check = record { word = codes "check"; plain = File ∷ []; options = [] }
+table_row Central = record { word = codes "central"; plain = File ∷ []; options = [] }
 table_row Help = record { word = codes "--help"; plain = []; options = [] }
 table_row Version = record { word = codes "--version"; plain = []; options = [] }
 

@@ -3,17 +3,18 @@ use Rattle.std.specs.Prelude.{ℕ, List, [], ◌∷◌, ◌++◌, ◌≡◌, ◌
 use Rattle.field_table.specs.declared.field_ref.FieldRef.{FieldRef}
 use Rattle.field_table.specs.FieldText.{field_text}
 use Rattle.command_words.specs.declared.table.Name.{Name}
-use Rattle.command_words.specs.declared.table.Name.TheVariants.{Count, Stack, Check, Help, Version}
+use Rattle.command_words.specs.declared.table.Name.TheVariants.{Count, Stack, Check, Central, Help, Version}
 use Rattle.command_words.specs.Kinds.{IsNumber}
 use Rattle.command_words.specs.CommandTable.{command_word}
 use Rattle.command_words.specs.CommandLine.{Part, spell, plain_words, values_for, IsLine}
 
 -- What is asked: `count` with its field, its window in nanoseconds and its file; `stack` with its
--- port, the field to print and its file; `check` with its job.
+-- port, the field to print and its file; `check` with its job; `central` with its job.
 pub data Asked : Type 0 where
   AskedCount : FieldRef → ℕ → List ℕ → Asked
   AskedStack : ℕ → Option FieldRef → List ℕ → Asked
   AskedCheck : List ℕ → Asked
+  AskedCentral : List ℕ → Asked
   AskedHelp : Asked
   AskedVersion : Asked
 
@@ -21,6 +22,7 @@ abbrev pub command_of : Asked → Name
 command_of (AskedCount field window file) = Count
 command_of (AskedStack port field file) = Stack
 command_of (AskedCheck job) = Check
+command_of (AskedCentral job) = Central
 command_of AskedHelp = Help
 command_of AskedVersion = Version
 
@@ -43,6 +45,7 @@ Means (AskedCount field window file) plain values =
     (digits : List ℕ) × (plain ≡ field_text field ∷ digits ∷ file ∷ []) × IsNumber digits window
 Means (AskedStack port field file) plain values = (plain ≡ file ∷ []) × NumberOr 4789 (values 0) port × FieldOr (values 1) field
 Means (AskedCheck job) plain values = plain ≡ job ∷ []
+Means (AskedCentral job) plain values = plain ≡ job ∷ []
 Means AskedHelp plain values = Unit {0}
 Means AskedVersion plain values = Unit {0}
 

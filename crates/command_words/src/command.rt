@@ -42,6 +42,11 @@ pub enum Command<'a> {
         /// The name of the job's file.
         job: &'a str,
     },
+    /// The whole report of a job over its captures.
+    Central {
+        /// The name of the job's file.
+        job: &'a str,
+    },
     /// What the program can be asked.
     Help,
     /// The version of the program.
@@ -64,6 +69,7 @@ pub(crate) fn command_read<'a>(command: Name, read: Read<'a>) -> Option<Command<
         Name::Count => count_of(read.plain),
         Name::Stack => stack_of(read.plain, read.values),
         Name::Check => Some(check_of(read.plain)),
+        Name::Central => Some(central_of(read.plain)),
         Name::Help => Some(Command::Help),
         Name::Version => Some(Command::Version),
     }
@@ -112,6 +118,14 @@ fn check_of<'a>(plain: [&'a str; MOST_WORDS]) -> Command<'a>
     ensures only { (values : ℕ → List (List ℕ)) → (other : Asked) → Says Name.Check (take 1 (map (λ w. w.now) plain.entry)) values other → other ≡ asked_of result }
 {
     Command::Check { job: plain[0] }
+}
+
+/// What `central` asks by its word.
+fn central_of<'a>(plain: [&'a str; MOST_WORDS]) -> Command<'a>
+    ensures said { (values : ℕ → List (List ℕ)) → Says Name.Central (take 1 (map (λ w. w.now) plain.entry)) values (asked_of result) }
+    ensures only { (values : ℕ → List (List ℕ)) → (other : Asked) → Says Name.Central (take 1 (map (λ w. w.now) plain.entry)) values other → other ≡ asked_of result }
+{
+    Command::Central { job: plain[0] }
 }
 
 /// The port that is given, or the one of VXLAN. None: what is given is no port.

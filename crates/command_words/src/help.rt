@@ -21,6 +21,10 @@ usage: dshark COMMAND WORDS
       Reads the job in the file JOB, and prints it in its canonical form.
       dshark check job.json
 
+  central JOB
+      Reads every capture that JOB names, and prints groups, delays and counts.
+      dshark central job.json
+
   --help
       Prints this text.
       dshark --help

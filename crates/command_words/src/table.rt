@@ -16,6 +16,8 @@ pub(crate) enum Name {
     Stack,
     /// A job, read and printed again.
     Check,
+    /// The whole report of a job over its captures.
+    Central,
     /// What the program can be asked.
     Help,
     /// The version of the program.
@@ -58,7 +60,7 @@ pub(crate) fn row_of(command: Name) -> Row
                 ("--field", Kind::Field),
             ],
         },
-        Name::Check => Row {
+        Name::Check | Name::Central => Row {
             plain: &[Kind::File],
             options: &[],
         },
@@ -78,6 +80,7 @@ pub(crate) fn command_named(word: &str) -> Option<Name>
         "count" => Some(Name::Count),
         "stack" => Some(Name::Stack),
         "check" => Some(Name::Check),
+        "central" => Some(Name::Central),
         "--help" => Some(Name::Help),
         "--version" => Some(Name::Version),
         _ => None,

@@ -4,7 +4,7 @@ use std::alloc::{AllocError, Global};
 use std::test::Fail;
 
 // Lists of words, one word a space, and the place where each is refused.
-static REFUSED: [(&str, u32); 44] = [
+static REFUSED: [(&str, u32); 48] = [
     ("", 0),
     ("run j", 0),
     ("-h", 0),
@@ -24,6 +24,10 @@ static REFUSED: [(&str, u32); 44] = [
     ("check --", 1),
     ("check j k", 2),
     ("check j --port=1", 2),
+    ("central", 1),
+    ("central -x", 1),
+    ("central --port", 1),
+    ("central j x", 2),
     ("stack", 1),
     ("stack -", 1),
     ("stack ", 1),
@@ -107,6 +111,7 @@ fn words_ask_for_a_command_with_its_values(rt: HostRuntime) -> Result<(), Fail> 
             stack(2, Some(source)),
         ),
         ("check j", Command::Check { job: "j" }),
+        ("central j", Command::Central { job: "j" }),
         ("--help", Command::Help),
         ("--version", Command::Version),
     ];
@@ -126,7 +131,7 @@ fn the_text_for_people_fits_a_screen(rt: HostRuntime) {
         assert!(rt; line.len() <= 80, "{line}");
     }
     assert!(rt; HELP.lines().count() <= 40);
-    for command in ["count", "stack", "check", "--help", "--version"] {
+    for command in ["count", "stack", "check", "central", "--help", "--version"] {
         assert!(rt; HELP.contains(command), "{command}");
     }
     assert_eq!(rt; VERSION_LINE, "dshark 0.1.0\n");

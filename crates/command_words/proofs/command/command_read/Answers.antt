@@ -1,5 +1,5 @@
 use Rattle.std.proofs.Common.{◌≡◌, Some, length, take, sym, ap, ◌∙◌}
-use Rattle.command_words.specs.declared.table.Name.TheVariants.{Count, Stack, Check}
+use Rattle.command_words.specs.declared.table.Name.TheVariants.{Count, Stack, Check, Central}
 use Rattle.command_words.specs.CommandTable.{plain_kinds}
 use Rattle.command_words.specs.Words.{Asked, Says}
 use Rattle.command_words.specs.Command.{asked_of}
@@ -44,3 +44,15 @@ returns-in-Check-clause-only c =
     let full : c.args.read.count ≡ length (plain_kinds c.args.command) = c.if-read-row_of.false ∙ ap length c.row_of.ensures.plain in
     made_only c.args.command Check c.args.read (Some c.check_of.result) c.in-Check.is c.in_default.is full
     (c.check_of.ensures.only (given_values (shown_values c.args.read)))
+
+pub returns-in-Central-clause-accepts : goal.returns-in-Central-clause-accepts
+returns-in-Central-clause-accepts c =
+    let full : c.args.read.count ≡ length (plain_kinds c.args.command) = c.if-read-row_of.false ∙ ap length c.row_of.ensures.plain in
+    made_accepts c.args.command Central c.args.read (Some c.central_of.result) c.in-Central.is c.in_default.is full
+    (c.central_of.ensures.said (given_values (shown_values c.args.read)))
+
+pub returns-in-Central-clause-only : goal.returns-in-Central-clause-only
+returns-in-Central-clause-only c =
+    let full : c.args.read.count ≡ length (plain_kinds c.args.command) = c.if-read-row_of.false ∙ ap length c.row_of.ensures.plain in
+    made_only c.args.command Central c.args.read (Some c.central_of.result) c.in-Central.is c.in_default.is full
+    (c.central_of.ensures.only (given_values (shown_values c.args.read)))
