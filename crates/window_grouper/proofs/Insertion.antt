@@ -6,7 +6,7 @@ use Rattle.std.specs.List.Sorted.{IsPermutation}
 use Rattle.std.proofs.lemmas.Bool.{cases_Bool}
 use Rattle.std.proofs.lemmas.List.{drop_more}
 use Rattle.std.proofs.lemmas.List.Elements.{Contains-append_right, Contains-append_cases}
-use Rattle.std.proofs.lemmas.List.Sorted.{IsPermutation-refl, IsPermutation-cons, IsPermutation-sym, IsPermutation-trans, IsPermutation-middle, Contains-permutation}
+use Rattle.std.proofs.lemmas.List.Sorted.{IsPermutation-refl, IsPermutation-cons, IsPermutation-sym, IsPermutation-trans, IsPermutation-middle, Contains-permutation, length_permutation}
 use Rattle.std.proofs.lemmas.Option.{slice_get_within, get_or_from_slice_get}
 use Rattle.ds_base.specs.Order.{Precedes, PrecedesAll, InStampOrder}
 use Rattle.ds_base.specs.declared.stamp.Stamp.{Stamp}
@@ -100,6 +100,10 @@ same-by_stamp [] = IsPermutation-refl []
 same-by_stamp (s ∷ ss) =
     IsPermutation-trans (s ∷ ss) (s ∷ by_stamp ss) (insert_by_stamp s (by_stamp ss))
     (IsPermutation-cons s ss (by_stamp ss) (same-by_stamp ss)) (same-insert s (by_stamp ss))
+
+-- each summary of the list is once in the sorted one
+pub length-by_stamp : (l : List Summary) → length (by_stamp l) ≡ length l
+length-by_stamp l = length_permutation l (by_stamp l) (same-by_stamp l)
 
 -- ---- no other list in order has the same summaries
 

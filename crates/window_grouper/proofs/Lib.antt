@@ -3,9 +3,14 @@ pub mod Covers
 pub mod Unique
 pub mod Keys
 pub mod Placed
+pub mod Numbers
+pub mod Sound
 pub mod Steps
 pub mod Pass
+pub mod Members
+pub mod GivenOut
 pub mod Sorted
 pub mod Stamps
 pub mod Insertion
 pub mod Positions
+pub mod Entries

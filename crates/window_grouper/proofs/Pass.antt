@@ -1,19 +1,14 @@
--- The groups of a list with one more summary behind it, and what one pass over a list keeps.
-use Rattle.std.proofs.Common.{ℕ, zero, suc, Bool, true, false, cond, List, [], ◌∷◌, ◌++◌, ◌≡◌, ◌≤◌, ◌+◌, ◌||◌, Some, None, refl, sym, ap, subst, ◌∙◌, ⊎_elim, map, take, drop, length}
-use Rattle.std.specs.Prelude.{slice_get, filter}
-use Rattle.std.specs.List.{AllByRecursion, list_any}
+-- The groups of a list with one more summary behind it.
+use Rattle.std.proofs.Common.{ℕ, Bool, true, false, cond, List, [], ◌∷◌, ◌++◌, ◌≡◌, ◌||◌, refl, ap, ◌∙◌, ⊎_elim, map}
+use Rattle.std.specs.Prelude.{filter}
+use Rattle.std.specs.List.{list_any}
 use Rattle.std.proofs.lemmas.Bool.{cases_Bool}
-use Rattle.std.proofs.lemmas.List.{take_more, drop_more, take_all, append-nil}
+use Rattle.std.proofs.lemmas.List.{append-nil}
 use Rattle.std.proofs.lemmas.List.Elements.{filter-append}
-use Rattle.std.proofs.lemmas.Option.{get_or_from_slice_get, slice_get_within}
 use Rattle.ds_base.specs.Copies.{Copies}
-use Rattle.ds_base.specs.Order.{InStampOrder}
 use Rattle.ds_base.specs.declared.summary.Summary.{Summary}
-use Rattle.window_grouper.specs.declared.newest.Newest.{Newest}
 use Rattle.window_grouper.specs.Groups.{covers, is_covered, groups_behind, groups_of}
-use Rattle.window_grouper.specs.Newest.{newest_of}
-use Rattle.window_grouper.specs.Placing.{takes, single, grown, placed, IsIndexOf, OnlyNewestTakes, IsPlaced}
-use Rattle.window_grouper.proofs.Covers.{not_before}
+use Rattle.window_grouper.specs.Placing.{takes, single, grown, placed}
 
 -- `placed`, behind groups with the firsts fs
 placed_behind : ℕ → List Summary → Summary → List Copies → List Copies
@@ -70,70 +65,6 @@ groups_behind-push window fs (x ∷ l) s =
     ∙ cons_within (is_covered window fs s || (covers window x s || any)) (grown window s g) (map (grown window s) gs) (single s)))
     (cases_Bool (is_covered window fs x))
 
-groups_of-push : (window : ℕ) (l : List Summary) (s : Summary) → groups_of window (l ++ s ∷ []) ≡ placed window s (groups_of window l)
+pub groups_of-push : (window : ℕ) (l : List Summary) (s : Summary) → groups_of window (l ++ s ∷ []) ≡ placed window s (groups_of window l)
 unfolding placed_behind
 groups_of-push window l s = groups_behind-push window [] l s
-
--- ---- one pass
-
--- the first i summaries of l were placed
-pub record Passed (window : ℕ) (l : List Summary) (i : ℕ) (newest : Newest) (gs : List Copies) : Type 0 where
-  pub groups : gs ≡ groups_of window (take i l)
-  pub index : IsIndexOf newest gs
-  pub rest : AllByRecursion (OnlyNewestTakes window newest gs) (drop i l)
-
-only_none : (window : ℕ) (newest : Newest) (l : List Summary) → AllByRecursion (OnlyNewestTakes window newest []) l
-only_none window newest [] = tt
-only_none window newest (s ∷ l) = (λ i g e t. absurd (cc), only_none window newest l)
-
-pub passed_none : (window : ℕ) (l : List Summary) (newest : Newest) → ((key : List ℕ) → newest_of newest key ≡ None)
-    → Passed window l 0 newest []
-passed_none window l newest empty = record {
-  groups = refl;
-  index = λ key i e. let none : newest_of newest key ≡ None = empty key in absurd (cc);
-  rest = only_none window newest l;
-}
-
-ordered_drop : (i : ℕ) (l : List Summary) → InStampOrder l → InStampOrder (drop i l)
-ordered_drop zero l h = h
-ordered_drop (suc i) [] h = tt
-ordered_drop (suc i) (s ∷ l) h = ordered_drop i l h.1
-
-split_at : (l : List Summary) (i : ℕ) (s : Summary) → slice_get l i ≡ Some s → drop i l ≡ s ∷ drop (i + 1) l
-split_at l i s at =
-    drop_more l i s (slice_get_within l i s at) ∙ ap (λ (t : Summary). t ∷ drop (i + 1) l) (get_or_from_slice_get l i s s at)
-
-all_later : (window : ℕ) (s : Summary) (old new : Newest) (gs hs : List Copies) → IsPlaced window s old new gs hs → (l : List Summary)
-    → AllByRecursion (λ t. s.at.time ≤ t.at.time) l → AllByRecursion (OnlyNewestTakes window old gs) l
-    → AllByRecursion (OnlyNewestTakes window new hs) l
-all_later window s old new gs hs put [] after only = tt
-all_later window s old new gs hs put (x ∷ l) after only =
-    (put.later x after.0 only.0, all_later window s old new gs hs put l after.1 only.1)
-
-rest_at : (window : ℕ) (l : List Summary) (i : ℕ) (s : Summary) (newest : Newest) (gs : List Copies) → slice_get l i ≡ Some s
-    → Passed window l i newest gs → AllByRecursion (OnlyNewestTakes window newest gs) (s ∷ drop (i + 1) l)
-rest_at window l i s newest gs at passed =
-    subst (λ (k : List Summary). AllByRecursion (OnlyNewestTakes window newest gs) k) (split_at l i s at) passed.rest
-
--- only the newest group with its key takes the next summary
-pub passed_only : (window : ℕ) (l : List Summary) (i : ℕ) (s : Summary) (newest : Newest) (gs : List Copies) → slice_get l i ≡ Some s
-    → Passed window l i newest gs → OnlyNewestTakes window newest gs s
-passed_only window l i s newest gs at passed = (rest_at window l i s newest gs at passed).0
-
-pub passed_more : (window : ℕ) (l : List Summary) (i : ℕ) (s : Summary) (old new : Newest) (gs hs : List Copies) → InStampOrder l
-    → slice_get l i ≡ Some s → Passed window l i old gs → IsPlaced window s old new gs hs → Passed window l (i + 1) new hs
-passed_more window l i s old new gs hs ordered at passed put =
-    let here : InStampOrder (s ∷ drop (i + 1) l) = subst (λ (k : List Summary). InStampOrder k) (split_at l i s at) (ordered_drop i l ordered) in
-    let more : take (i + 1) l ≡ take i l ++ s ∷ [] =
-    take_more l i s (slice_get_within l i s at) ∙ ap (λ (t : Summary). take i l ++ t ∷ []) (get_or_from_slice_get l i s s at) in
-    record {
-      groups = put.groups ∙ ap (placed window s) passed.groups ∙ sym (groups_of-push window (take i l) s)
-          ∙ ap (groups_of window) (sym more);
-      index = put.index;
-      rest = all_later window s old new gs hs put (drop (i + 1) l) (not_before s (drop (i + 1) l) here.0)
-          (rest_at window l i s old gs at passed).1;
-    }
-
-pub passed_all : (window : ℕ) (l : List Summary) (i : ℕ) (newest : Newest) (gs : List Copies) → length l ≤ i
-    → Passed window l i newest gs → gs ≡ groups_of window l
-passed_all window l i newest gs long passed = passed.groups ∙ ap (groups_of window) (take_all i l long)

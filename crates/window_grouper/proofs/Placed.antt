@@ -1,15 +1,14 @@
--- What becomes of the groups and of the index when one more summary is placed.
-use Rattle.std.proofs.Common.{ℕ, zero, suc, true, false, List, [], ◌∷◌, ◌++◌, ◌≡◌, ◌≢◌, ◌≤◌, ◌+◌, ◌⊎◌, Some, Option, refl, sym, ap, subst, ◌∙◌, arith, ⊎_elim, inl, inr, leb, map, length}
+-- What becomes of the groups and of their index when one more summary is placed.
+use Rattle.std.proofs.Common.{ℕ, zero, suc, true, false, List, [], ◌∷◌, ◌++◌, ◌≡◌, ◌≢◌, ◌≤◌, ◌<◌, ◌+◌, ◌⊎◌, Some, Option, refl, sym, ap, subst, ◌∙◌, arith, ⊎_elim, inl, inr, leb, map, length}
 use Rattle.std.specs.Prelude.{slice_get, slice_set}
 use Rattle.std.specs.List.{list_any}
-use Rattle.std.proofs.lemmas.Bool.{cases_Bool, both_ways, and_parts, and_from, leb-true, le-leb, cases_eq}
+use Rattle.std.proofs.lemmas.Bool.{cases_Bool, both_ways, and_parts, leb-true, cases_eq}
+use Rattle.std.proofs.lemmas.Option.{slice_get_within}
 use Rattle.ds_base.specs.Copies.{Copies}
 use Rattle.ds_base.specs.declared.summary.Summary.{Summary}
-use Rattle.window_grouper.specs.declared.newest.Begun.{Begun}
-use Rattle.window_grouper.specs.declared.newest.Newest.{Newest}
 use Rattle.window_grouper.specs.Groups.{same_key}
-use Rattle.window_grouper.specs.Newest.{newest_of, Puts}
-use Rattle.window_grouper.specs.Placing.{members_take, takes, with_member, single, grown, BeganAt, IsIndexOf, OnlyNewestTakes, IsPlaced}
+use Rattle.window_grouper.specs.Over.{EndsBefore, BegunBy}
+use Rattle.window_grouper.specs.Placing.{members_take, takes, with_member, single, grown, placed, BeganAt, HaveBegun, Slot, IsIndexOf, HasNewest}
 use Rattle.window_grouper.proofs.Covers.{same_key-true, same_key-from}
 
 -- ---- an item by its place
@@ -52,26 +51,58 @@ takes_key window g s h = by_members g.members h where
   by_members [] t = absurd (cc)
   by_members (f ∷ fs) t = same_key-true g.key s.key (and_parts (same_key g.key s.key) (leb s.at.time (f.at.time + window)) t).0
 
--- a group that takes a summary takes each of its key that is no later
-members_take_earlier : (window : ℕ) (key : List ℕ) (m : List Summary) (s x : Summary) → x.key ≡ s.key → s.at.time ≤ x.at.time
-    → members_take window key m x ≡ true → members_take window key m s ≡ true
-members_take_earlier window key [] s x same earlier h = h
-members_take_earlier window key (f ∷ fs) s x same earlier h =
-    let parts = and_parts (same_key key x.key) (leb x.at.time (f.at.time + window)) h in
-    let near : x.at.time ≤ f.at.time + window = leb-true x.at.time (f.at.time + window) parts.1 in
-    let here : s.at.time ≤ f.at.time + window = omega arith in
-    and_from (same_key key s.key) (leb s.at.time (f.at.time + window))
-    (same_key-from key s.key (same_key-true key x.key parts.0 ∙ same)) (le-leb s.at.time (f.at.time + window) here)
-
--- one more member leaves the first in its place
-members_take_grown : (window : ℕ) (key : List ℕ) (m : List Summary) (s x : Summary) (t : ℕ) → BeganAt t m
-    → members_take window key (m ++ s ∷ []) x ≡ members_take window key m x
-members_take_grown window key [] s x t h = absurd h
-members_take_grown window key (f ∷ fs) s x t h = refl
-
 began_grown : (t : ℕ) (m : List Summary) (s : Summary) → BeganAt t m → BeganAt t (m ++ s ∷ [])
 began_grown t [] s h = absurd h
 began_grown t (f ∷ fs) s h = h
+
+ends_grown : (window t : ℕ) (m : List Summary) (s : Summary) → EndsBefore window t m → EndsBefore window t (m ++ s ∷ [])
+ends_grown window t [] s h = absurd h
+ends_grown window t (f ∷ fs) s h = h
+
+ends_later : (window t u : ℕ) (m : List Summary) → t ≤ u → EndsBefore window t m → EndsBefore window u m
+ends_later window t u [] later h = absurd h
+ends_later window t u (f ∷ fs) later h = omega arith
+
+ends_from : (window t u : ℕ) (m : List Summary) → BeganAt t m → t + window < u → EndsBefore window u m
+ends_from window t u [] began past = absurd began
+ends_from window t u (f ∷ fs) began past = omega arith
+
+-- what is over at a time takes no summary of that time or a later one
+pub over_takes_not : (window t : ℕ) (key : List ℕ) (m : List Summary) (s : Summary) → EndsBefore window t m → t ≤ s.at.time
+    → members_take window key m s ≡ true → ⊥
+over_takes_not window t key [] s over later h = over
+over_takes_not window t key (f ∷ fs) s over later h =
+    let near : s.at.time ≤ f.at.time + window =
+    leb-true s.at.time (f.at.time + window) (and_parts (same_key key s.key) (leb s.at.time (f.at.time + window)) h).1 in
+    omega arith
+
+began_by : (t u : ℕ) (m : List Summary) → BeganAt t m → BegunBy u m → t ≤ u
+began_by t u [] began by = absurd began
+began_by t u (f ∷ fs) began by = omega arith
+
+-- ---- the index
+
+begun_at : (time : ℕ) (gs : List Copies) (i : ℕ) (g : Copies) → HaveBegun time gs → slice_get gs i ≡ Some g → BegunBy time g.members
+begun_at time [] i g h e = absurd (cc)
+begun_at time (x ∷ gs) zero g h e = let same : x ≡ g = cc in subst (λ (k : Copies). BegunBy time k.members) same h.0
+begun_at time (x ∷ gs) (suc i) g h e = begun_at time gs i g h.1 e
+
+-- a group that takes s is the newest with its key
+OnlyNewestTakes : ℕ → (List ℕ → Option Slot) → List Copies → Summary → Type 0
+OnlyNewestTakes window slots gs s = (i : ℕ) (g : Copies) → slice_get gs i ≡ Some g → takes window g s ≡ true
+    → (b : Slot) × (slots s.key ≡ Some b) × (b.place ≡ i)
+
+only_newest : (window : ℕ) (s : Summary) (slots : List ℕ → Option Slot) (gs : List Copies) → IsIndexOf slots gs → HasNewest window slots gs
+    → HaveBegun s.at.time gs → OnlyNewestTakes window slots gs s
+unfolding OnlyNewestTakes
+only_newest window s slots gs index last begun i g at t =
+    let l = last i g at in
+    let own : slots s.key ≡ Some l.0 = subst (λ (key : List ℕ). slots key ≡ Some l.0) (takes_key window g s t) l.1 in
+    let there = index g.key l.0 l.1 in
+    let by : l.0.began ≤ s.at.time = began_by l.0.began s.at.time there.0.members there.3 (begun_at s.at.time gs l.0.place there.0 begun there.1) in
+    ⊎_elim (λ (here : l.0.place ≡ i). (l.0, own, here))
+    (λ (past : (i < l.0.place) × EndsBefore window l.0.began g.members).
+    absurd (over_takes_not window l.0.began g.key g.members s past.1 by t)) l.2
 
 -- ---- the groups
 
@@ -108,95 +139,129 @@ one_grows window s (x ∷ gs) (suc i) g h t one =
     let any : list_any (λ k. takes window k s) gs ≡ true = rest.0 in
     (rw this any, rw this (ap (λ (ks : List Copies). x ∷ ks) rest.1))
 
-same_begun : (o : Option Begun) (b c : Begun) → o ≡ Some b → o ≡ Some c → b ≡ c
-same_begun o b c h k = cc
+same_slot : (o : Option Slot) (b c : Slot) → o ≡ Some b → o ≡ Some c → b ≡ c
+same_slot o b c h k = cc
 
 same_group : (gs : List Copies) (i : ℕ) (g k : Copies) → slice_get gs i ≡ Some g → slice_get gs i ≡ Some k → g ≡ k
 same_group gs i g k a b = cc
 
--- s went into the newest group with its key
-pub placed_within : (window : ℕ) (s : Summary) (newest : Newest) (gs : List Copies) (b : Begun) (g : Copies)
-    → IsIndexOf newest gs → OnlyNewestTakes window newest gs s → newest_of newest s.key ≡ Some b → slice_get gs b.number ≡ Some g
-    → takes window g s ≡ true → IsPlaced window s newest newest gs (slice_set gs b.number (with_member g s))
-placed_within window s newest gs b g index only found at t =
-    let i : ℕ = b.number in
-    let hs : List Copies = slice_set gs i (with_member g s) in
-    let there = index s.key b found in
-    let began : BeganAt b.time g.members =
-    subst (λ (k : Copies). BeganAt b.time k.members) (same_group gs i there.0 g there.1 at) there.3 in
-    let grows = one_grows window s gs i g at t (λ j k e u.
-    let o = only j k e u in
-    sym o.2 ∙ ap (λ (c : Begun). c.number) (same_begun (newest_of newest s.key) o.0 b o.1 found)) in
-    let any : list_any (λ k. takes window k s) gs ≡ true = grows.0 in
-    record {
-      groups = rw any (sym grows.1);
-      index = λ key c e.
-          let was = index key c e in
-          ⊎_elim
-          (λ (same : c.number ≡ i).
-          let here : slice_get gs i ≡ Some was.0 = subst (λ (n : ℕ). slice_get gs n ≡ Some was.0) same was.1 in
-          let one : was.0 ≡ g = same_group gs i was.0 g here at in
-          let own : BeganAt c.time g.members = subst (λ (k : Copies). BeganAt c.time k.members) one was.3 in (
-            with_member g s,
-            subst (λ (n : ℕ). slice_get hs n ≡ Some (with_member g s)) (sym same) (set_here gs i g (with_member g s) at),
-            ap (λ (k : Copies). k.key) (sym one) ∙ was.2,
-            began_grown c.time g.members s own,
-          ))
-          (λ (apart : c.number ≡ i → ⊥).
-          (was.0, set_other gs i c.number (with_member g s) apart ∙ was.1, was.2, was.3))
-          (cases_eq c.number i);
-      later = λ x after onlyx j k e u. ⊎_elim
-          (λ (same : j ≡ i).
-          let here : slice_get hs i ≡ Some k = subst (λ (n : ℕ). slice_get hs n ≡ Some k) same e in
-          let one : k ≡ with_member g s = same_group hs i k (with_member g s) here (set_here gs i g (with_member g s) at) in
-          let told : takes window (with_member g s) x ≡ true = subst (λ (c : Copies). takes window c x ≡ true) one u in
-          let o = onlyx i g at (sym (members_take_grown window g.key g.members s x b.time began) ∙ told) in
-          (o.0, o.1, o.2 ∙ sym same))
-          (λ (apart : j ≡ i → ⊥). onlyx j k (sym (set_other gs i j (with_member g s) apart) ∙ e) u)
-          (cases_eq j i);
-    }
+-- ---- s goes into the newest group with its key
 
--- s began a group
-pub placed_alone : (window : ℕ) (s : Summary) (old new : Newest) (gs : List Copies)
-    → IsIndexOf old gs → OnlyNewestTakes window old gs s
-    → ((b : Begun) (g : Copies) → newest_of old s.key ≡ Some b → slice_get gs b.number ≡ Some g → takes window g s ≡ false)
-    → Puts old new s.key (record { number = length gs; time = s.at.time }) → IsPlaced window s old new gs (gs ++ single s ∷ [])
-unfolding NoneTakes
-placed_alone window s old new gs index only past put =
-    let begun : Begun = record { number = length gs; time = s.at.time } in
+pub index_within : (slots : List ℕ → Option Slot) (gs : List Copies) (i : ℕ) (g : Copies) (s : Summary) → IsIndexOf slots gs
+    → slice_get gs i ≡ Some g → IsIndexOf slots (slice_set gs i (with_member g s))
+index_within slots gs i g s index at key c e =
+    let hs : List Copies = slice_set gs i (with_member g s) in
+    let was = index key c e in
+    ⊎_elim
+    (λ (same : c.place ≡ i).
+    let here : slice_get gs i ≡ Some was.0 = subst (λ (n : ℕ). slice_get gs n ≡ Some was.0) same was.1 in
+    let one : was.0 ≡ g = same_group gs i was.0 g here at in
+    let own : BeganAt c.began g.members = subst (λ (k : Copies). BeganAt c.began k.members) one was.3 in (
+      with_member g s,
+      subst (λ (n : ℕ). slice_get hs n ≡ Some (with_member g s)) (sym same) (set_here gs i g (with_member g s) at),
+      ap (λ (k : Copies). k.key) (sym one) ∙ was.2,
+      began_grown c.began g.members s own,
+    ))
+    (λ (apart : c.place ≡ i → ⊥). (was.0, set_other gs i c.place (with_member g s) apart ∙ was.1, was.2, was.3))
+    (cases_eq c.place i)
+
+pub newest_within : (window : ℕ) (slots : List ℕ → Option Slot) (gs : List Copies) (i : ℕ) (g : Copies) (s : Summary)
+    → HasNewest window slots gs → slice_get gs i ≡ Some g → HasNewest window slots (slice_set gs i (with_member g s))
+newest_within window slots gs i g s last at j k e =
+    let hs : List Copies = slice_set gs i (with_member g s) in
+    ⊎_elim
+    (λ (same : j ≡ i).
+    let here : slice_get hs i ≡ Some k = subst (λ (n : ℕ). slice_get hs n ≡ Some k) same e in
+    let one : with_member g s ≡ k = same_group hs i (with_member g s) k (set_here gs i g (with_member g s) at) here in
+    let l = last i g at in
+    subst (λ (n : ℕ). (b : Slot) × (slots k.key ≡ Some b) × ((b.place ≡ n) ⊎ ((n < b.place) × EndsBefore window b.began k.members))) (sym same)
+    (subst (λ (c : Copies). (b : Slot) × (slots c.key ≡ Some b) × ((b.place ≡ i) ⊎ ((i < b.place) × EndsBefore window b.began c.members))) one (
+      l.0,
+      l.1,
+      ⊎_elim (λ (own : l.0.place ≡ i). inl own)
+          (λ (past : (i < l.0.place) × EndsBefore window l.0.began g.members). inr (past.0, ends_grown window l.0.began g.members s past.1)) l.2,
+    )))
+    (λ (apart : j ≡ i → ⊥). last j k (sym (set_other gs i j (with_member g s) apart) ∙ e))
+    (cases_eq j i)
+
+pub placed_within : (window : ℕ) (s : Summary) (slots : List ℕ → Option Slot) (gs : List Copies) (b : Slot) (g : Copies)
+    → IsIndexOf slots gs → HasNewest window slots gs → HaveBegun s.at.time gs → slots s.key ≡ Some b → slice_get gs b.place ≡ Some g
+    → takes window g s ≡ true → slice_set gs b.place (with_member g s) ≡ placed window s gs
+unfolding OnlyNewestTakes
+placed_within window s slots gs b g index last begun found at t =
+    let only = only_newest window s slots gs index last begun in
+    let grows = one_grows window s gs b.place g at t (λ j k e u.
+    let o = only j k e u in
+    sym o.2 ∙ ap (λ (c : Slot). c.place) (same_slot (slots s.key) o.0 b o.1 found)) in
+    let any : list_any (λ k. takes window k s) gs ≡ true = grows.0 in
+    rw any (sym grows.1)
+
+-- ---- s begins a group
+
+-- the slot is that of the key now, and every other key has the slot that it had
+pub record PutsSlot (old new : List ℕ → Option Slot) (key : List ℕ) (slot : Slot) : Type 0 where
+  pub here : new key ≡ Some slot
+  pub others : (other : List ℕ) → other ≢ key → new other ≡ old other
+
+pub index_alone : (s : Summary) (old new : List ℕ → Option Slot) (gs : List Copies) → IsIndexOf old gs
+    → PutsSlot old new s.key (record { place = length gs; began = s.at.time }) → IsIndexOf new (gs ++ single s ∷ [])
+index_alone s old new gs index put key c e =
+    let slot : Slot = record { place = length gs; began = s.at.time } in
+    ⊎_elim
+    (λ (same : same_key key s.key ≡ true).
+    let one : key ≡ s.key = same_key-true key s.key same in
+    let found : new s.key ≡ Some c = subst (λ (k : List ℕ). new k ≡ Some c) one e in
+    let this : slot ≡ c = same_slot (new s.key) slot c put.here found in (
+      single s,
+      subst (λ (b : Slot). slice_get (gs ++ single s ∷ []) b.place ≡ Some (single s)) this (pushed_here gs (single s)),
+      sym one,
+      ap (λ (b : Slot). b.began) this,
+    ))
+    (λ (apart : same_key key s.key ≡ false).
+    let other : key ≢ s.key = λ one. both_ways (same_key key s.key) apart (same_key-from key s.key one) in
+    let was = index key c (sym (put.others key other) ∙ e) in
+    (was.0, pushed_before gs c.place was.0 (single s) was.1, was.2, was.3))
+    (cases_Bool (same_key key s.key))
+
+pub newest_alone : (window : ℕ) (s : Summary) (old new : List ℕ → Option Slot) (gs : List Copies) → IsIndexOf old gs
+    → HasNewest window old gs → ((b : Slot) → old s.key ≡ Some b → b.began + window < s.at.time)
+    → PutsSlot old new s.key (record { place = length gs; began = s.at.time }) → HasNewest window new (gs ++ single s ∷ [])
+newest_alone window s old new gs index last past put j k e =
+    let slot : Slot = record { place = length gs; began = s.at.time } in
+    ⊎_elim
+    (λ (before : slice_get gs j ≡ Some k).
+    let l = last j k before in
+    ⊎_elim
+    (λ (same : same_key k.key s.key ≡ true).
+    let one : k.key ≡ s.key = same_key-true k.key s.key same in
+    let own : old s.key ≡ Some l.0 = subst (λ (key : List ℕ). old key ≡ Some l.0) one l.1 in
+    let above : l.0.began + window < s.at.time = past l.0 own in
+    let there = index k.key l.0 l.1 in
+    let ends : EndsBefore window s.at.time k.members = ⊎_elim
+    (λ (here : l.0.place ≡ j).
+    let is : slice_get gs j ≡ Some there.0 = subst (λ (n : ℕ). slice_get gs n ≡ Some there.0) here there.1 in
+    let group : there.0 ≡ k = same_group gs j there.0 k is before in
+    ends_from window l.0.began s.at.time k.members (subst (λ (c : Copies). BeganAt l.0.began c.members) group there.3) above)
+    (λ (over : (j < l.0.place) × EndsBefore window l.0.began k.members).
+    ends_later window l.0.began s.at.time k.members (omega arith) over.1) l.2 in
+    (slot, ap new one ∙ put.here, inr (slice_get_within gs j k before, ends)))
+    (λ (apart : same_key k.key s.key ≡ false).
+    (l.0, put.others k.key (λ one. both_ways (same_key k.key s.key) apart (same_key-from k.key s.key one)) ∙ l.1, l.2))
+    (cases_Bool (same_key k.key s.key)))
+    (λ (behind : (j ≡ length gs) × (k ≡ single s)).
+    (slot, ap (λ (c : Copies). new c.key) behind.1 ∙ put.here, inl (sym behind.0)))
+    (pushed_cases gs j k (single s) e)
+
+pub placed_alone : (window : ℕ) (s : Summary) (slots : List ℕ → Option Slot) (gs : List Copies) → IsIndexOf slots gs
+    → HasNewest window slots gs → HaveBegun s.at.time gs
+    → ((b : Slot) (g : Copies) → slots s.key ≡ Some b → slice_get gs b.place ≡ Some g → takes window g s ≡ false)
+    → gs ++ single s ∷ [] ≡ placed window s gs
+unfolding NoneTakes OnlyNewestTakes
+placed_alone window s slots gs index last begun past =
+    let only = only_newest window s slots gs index last begun in
     let none : NoneTakes window gs s = λ i g e t.
     let o = only i g e t in
     both_ways (takes window g s) (past o.0 g o.1 (subst (λ (n : ℕ). slice_get gs n ≡ Some g) (sym o.2) e)) t in
     let grows = none_grows window s gs none in
     let any : list_any (λ k. takes window k s) gs ≡ false = grows.0 in
-    record {
-      groups = rw any (ap (λ (ks : List Copies). ks ++ single s ∷ []) (sym grows.1));
-      index = λ key c e. ⊎_elim
-          (λ (same : same_key key s.key ≡ true).
-          let one : key ≡ s.key = same_key-true key s.key same in
-          let found : newest_of new s.key ≡ Some c = subst (λ (k : List ℕ). newest_of new k ≡ Some c) one e in
-          let this : begun ≡ c = same_begun (newest_of new s.key) begun c put.here found in (
-            single s,
-            subst (λ (b : Begun). slice_get (gs ++ single s ∷ []) b.number ≡ Some (single s)) this (pushed_here gs (single s)),
-            sym one,
-            ap (λ (b : Begun). b.time) this,
-          ))
-          (λ (apart : same_key key s.key ≡ false).
-          let other : key ≢ s.key = λ one. both_ways (same_key key s.key) apart (same_key-from key s.key one) in
-          let was = index key c (sym (put.others key other) ∙ e) in
-          (was.0, pushed_before gs c.number was.0 (single s) was.1, was.2, was.3))
-          (cases_Bool (same_key key s.key));
-      later = λ x after onlyx j k e u. ⊎_elim
-          (λ (before : slice_get gs j ≡ Some k). ⊎_elim
-          (λ (same : same_key x.key s.key ≡ true).
-          absurd (none j k before (members_take_earlier window k.key k.members s x (same_key-true x.key s.key same) after u)))
-          (λ (apart : same_key x.key s.key ≡ false).
-          let o = onlyx j k before u in
-          (o.0, put.others x.key (λ one. both_ways (same_key x.key s.key) apart (same_key-from x.key s.key one)) ∙ o.1, o.2))
-          (cases_Bool (same_key x.key s.key)))
-          (λ (last : (j ≡ length gs) × (k ≡ single s)).
-          let told : takes window (single s) x ≡ true = subst (λ (c : Copies). takes window c x ≡ true) last.1 u in
-          let own : s.key ≡ x.key = takes_key window (single s) x told in
-          (begun, ap (λ (key : List ℕ). newest_of new key) (sym own) ∙ put.here, sym last.0))
-          (pushed_cases gs j k (single s) e);
-    }
+    rw any (ap (λ (ks : List Copies). ks ++ single s ∷ []) (sym grows.1))

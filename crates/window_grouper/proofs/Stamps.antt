@@ -15,7 +15,7 @@ abbrev pub stamp_cmp : Stamp → Stamp → Ordering
 stamp_cmp = (stamp_order.ghosts).cmp
 
 -- the two stamps are of one time, capture and number
-abbrev IsSame : Stamp → Stamp → Type 0
+abbrev pub IsSame : Stamp → Stamp → Type 0
 IsSame a b = (a.time ≡ b.time) × ((a.capture ≡ b.capture) × (a.number ≡ b.number))
 
 -- ---- the relation
@@ -46,7 +46,7 @@ then_ranked Equal Greater P Q Q' R S T U back h k = inr (back h, k)
 then_ranked Greater p P Q Q' R S T U back h k = inl h
 
 -- what the order answers says which of two stamps is before the other
-stamps_ranked : (a b : Stamp)
+pub stamps_ranked : (a b : Stamp)
     → MatchOrdering (stamp_cmp a b) (Precedes a b) (IsSame a b) (Precedes b a)
 stamps_ranked a b =
     then_ranked (nat_cmp a.time b.time) (ordering_then (nat_cmp a.capture b.capture) (nat_cmp a.number b.number))

@@ -1,11 +1,11 @@
 -- The groups of a list of summaries: for each key the cut of its summaries.
-use Rattle.std.specs.Prelude.{ℕ, Bool, List, [], ◌∷◌, ◌≡◌, ◌+◌, ◌&&◌, nat_eq, nat_le, filter, map, if◌then◌else◌}
-use Rattle.std.specs.List.{list_any}
+use Rattle.std.specs.Prelude.{ℕ, Bool, List, [], ◌∷◌, ◌≡◌, ◌<◌, ◌+◌, ◌&&◌, nat_eq, nat_le, filter, length, map, if◌then◌else◌}
+use Rattle.std.specs.List.{AllByRecursion, list_any, sum_by}
 use Rattle.std.specs.Cmp.Lexicographic.{pointwise}
 use Rattle.ds_base.specs.Copies.{Copies}
 use Rattle.ds_base.specs.Order.{InStampOrder}
 use Rattle.ds_base.specs.declared.summary.Summary.{Summary}
-use Rattle.window_grouper.specs.Cut.{IsCut, firsts}
+use Rattle.window_grouper.specs.Cut.{IsCut, IsWithin, firsts}
 
 -- whether two keys are the same numbers
 abbrev pub same_key : List ℕ → List ℕ → Bool
@@ -52,3 +52,19 @@ groups_of window l = groups_behind window [] l
 abbrev pub OneGrouping : ℕ → List Summary → Type 0
 OneGrouping window l = InStampOrder l
     → IsGroups window l (groups_of window l) × ((hs : List Copies) → IsGroups window l hs → hs ≡ groups_of window l)
+
+-- a group has a member, and its members have its key, in stamp order and within the window of the first
+pub record IsGroup (window : ℕ) (g : Copies) : Type 0 where
+  pub filled : 0 < length g.members
+  pub one_key : AllByRecursion (λ m. m.key ≡ g.key) g.members
+  pub ordered : InStampOrder g.members
+  pub within : IsWithin window g.members
+
+-- how many members the groups have in all
+abbrev pub members_in : List Copies → ℕ
+members_in gs = sum_by (λ g. length g.members) gs
+
+-- each of the groups of a list in stamp order is such a group, and they have as many members as the list has summaries
+abbrev pub AllGrouped : ℕ → List Summary → Type 0
+AllGrouped window l = InStampOrder l
+    → AllByRecursion (IsGroup window) (groups_of window l) × (members_in (groups_of window l) ≡ length l)

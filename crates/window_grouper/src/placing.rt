@@ -1,55 +1,56 @@
-ghost use Rattle.std.specs.Prelude.{◌≡◌, ◌≤◌, ◌+◌, ◌<◌, ◌++◌, ◌∷◌, [], Some, IfSome, IfNone, OnOk, slice_get, slice_set, length};
+ghost use Rattle.std.specs.Prelude.{◌≡◌, ◌≤◌, ◌+◌, ◌<◌, ◌%◌, ◌^◌, ◌++◌, ◌∷◌, [], Some, IfSome, IfNone, OnOk, OnErr, slice_get, slice_set, length};
 ghost use Rattle.ds_base.specs.Copies.{Copies};
-ghost use Rattle.window_grouper.specs.declared.newest.Begun.{Begun};
-ghost use Rattle.window_grouper.specs.Newest.{newest_of, Puts};
-ghost use Rattle.window_grouper.specs.Placing.{shown, with_member, single, IsIndexOf, OnlyNewestTakes, IsPlaced};
+ghost use Rattle.window_grouper.specs.Newest.{AreKept, Puts};
+ghost use Rattle.window_grouper.specs.Placing.{shown, with_member, single, placed, HaveBegun, Slot, slot_of, IsSound};
 
 use crate::newest::{Begun, Newest};
-use ds_base::{Group, GroupList, ItemList, OutOfMemory, Summary};
-use std::alloc::Global;
+use ds_base::{Group, ItemList, OutOfMemory, Summary};
+use std::collections::VecDeque;
 
-/// Places a summary that is behind all others so far: in the newest group with its key where its time
-/// is in that group's window, and else in a group of its own. The only refusal is want of memory.
+/// Places a summary among the groups that are held, where `given` groups were given out before them: in
+/// the newest group with its key where its time is in that group's window, and else in a group of its
+/// own. The only refusal is want of memory.
 pub(crate) fn place(
-    alloc: Global,
-    groups: &mut GroupList,
+    groups: &mut VecDeque<Group>,
     newest: &mut Newest,
-    s: &Summary,
+    given: u64,
     window: u64,
+    s: &Summary,
 ) -> Result<(), OutOfMemory>
-    requires index { IsIndexOf newest.old (shown groups.old) }
-    requires only { OnlyNewestTakes window newest.old (shown groups.old) s.now }
-    ensures { OnOk result (IsPlaced window s.now newest.old newest.new (shown groups.old)
-        (shown groups.new)) }
+    requires { IsSound window given newest.old (shown groups.old.items) }
+    ensures sound { IsSound window given newest.new (shown groups.new.items) }
+    ensures placed { OnOk result (HaveBegun s.now.at.time (shown groups.old.items)
+        → shown groups.new.items ≡ placed window s.now (shown groups.old.items)) }
 {
-    match taker(newest, s, window) {
-        Some(i) => join(groups, i, s),
-        None => begin(alloc, groups, newest, s),
+    match taker(newest, given, window, s) {
+        Some(place) => join(groups, place, s),
+        None => begin(groups, newest, given, s),
     }
 }
 
-/// The number of the newest group with the key of `s`, where its window reaches `s`.
-fn taker(newest: &Newest, s: &Summary, window: u64) -> Option<u64>
-    ensures near { IfSome result (λ i. (b : Begun) × (newest_of newest.now s.now.key ≡ Some b) × (b.number ≡ i)
-        × (s.now.at.time ≤ b.time + window)) }
-    ensures past { IfNone result ((b : Begun) → newest_of newest.now s.now.key ≡ Some b
-        → b.time + window < s.now.at.time) }
+/// The place of the newest group with the key of `s`, where its window reaches `s`.
+fn taker(newest: &Newest, given: u64, window: u64, s: &Summary) -> Option<u64>
+    ensures near { IfSome result (λ place. (b : Slot) × (slot_of given newest.now s.now.key ≡ Some b) × (b.place ≡ place)
+        × (s.now.at.time ≤ b.began + window)) }
+    ensures past { IfNone result ((b : Slot) → slot_of given newest.now s.now.key ≡ Some b
+        → b.began + window < s.now.at.time) }
 {
     let group = newest.get(&s.key)?;
     if s.at.time.saturating_sub(group.time) <= window {
-        Some(group.number)
+        Some(group.number.wrapping_sub(given))
     } else {
         None
     }
 }
 
-/// Puts a summary behind the members of group `i`.
-fn join(groups: &mut GroupList, i: u64, s: &Summary) -> Result<(), OutOfMemory>
-    requires { i < length groups.old.items }
-    ensures { OnOk result ((g : Copies) → slice_get (shown groups.old) i ≡ Some g
-        → shown groups.new ≡ slice_set (shown groups.old) i (with_member g s.now)) }
+/// Puts a summary behind the members of the group at `place`.
+fn join(groups: &mut VecDeque<Group>, place: u64, s: &Summary) -> Result<(), OutOfMemory>
+    requires { place < length groups.old.items }
+    ensures joined { OnOk result ((g : Copies) → slice_get (shown groups.old.items) place ≡ Some g
+        → shown groups.new.items ≡ slice_set (shown groups.old.items) place (with_member g s.now)) }
+    ensures kept { OnErr result (shown groups.new.items ≡ shown groups.old.items) }
 {
-    let group = groups.get_mut(i);
+    let group = &mut groups[place as usize];
     match group.members.push(*s) {
         Ok(()) => Ok(()),
         Err(_) => Err(OutOfMemory),
@@ -58,20 +59,21 @@ fn join(groups: &mut GroupList, i: u64, s: &Summary) -> Result<(), OutOfMemory>
 
 /// Begins a group with a summary, which is then the newest with its key.
 fn begin(
-    alloc: Global,
-    groups: &mut GroupList,
+    groups: &mut VecDeque<Group>,
     newest: &mut Newest,
+    given: u64,
     s: &Summary,
 ) -> Result<(), OutOfMemory>
-    ensures groups { OnOk result (shown groups.new ≡ shown groups.old ++ single s.now ∷ []) }
-    ensures newest { OnOk result (Puts newest.old newest.new s.now.key
-        (record { number = length groups.old.items; time = s.now.at.time })) }
+    ensures begun { OnOk result ((shown groups.new.items ≡ shown groups.old.items ++ single s.now ∷ [])
+        × Puts newest.old newest.new s.now.key
+        (record { number = (given + length groups.old.items) % 2 ^ 64; time = s.now.at.time })) }
+    ensures kept { OnErr result ((shown groups.new.items ≡ shown groups.old.items) × AreKept newest.old newest.new) }
 {
     let begun = Begun {
-        number: groups.len(),
+        number: given.wrapping_add(groups.len() as u64),
         time: s.at.time,
     };
-    let mut members = ItemList::new(alloc);
+    let mut members = ItemList::new(*groups.allocator());
     let Ok(()) = members.push(*s) else {
         return Err(OutOfMemory);
     };
@@ -79,8 +81,10 @@ fn begin(
         key: s.key,
         members,
     };
-    let Ok(()) = groups.push(group) else {
+    let Ok(()) = groups.reserve(1) else {
         return Err(OutOfMemory);
     };
-    newest.put(s.key, begun)
+    newest.put(s.key, begun)?;
+    groups.push_back_reserved(group);
+    Ok(())
 }

@@ -1,5 +1,5 @@
-use crate::{central, is_in_stamp_order, one_cut, one_grouping};
-use ds_base::{GroupList, Nums, OutOfMemory, Stamp, Summary, SummaryList, Text};
+use crate::{OpenGroups, all_grouped, central, is_in_stamp_order, one_cut, one_grouping};
+use ds_base::{Group, GroupList, Nums, OutOfMemory, Stamp, Summary, SummaryList, Text};
 use std::alloc::Global;
 use std::process::Abort;
 use std::test::Fail;
@@ -17,20 +17,23 @@ fn numbers(from: &[u128]) -> Nums {
     nums
 }
 
+fn summary(row: &Short, number: u64) -> Summary {
+    let (time, capture, key) = *row;
+    Summary {
+        at: Stamp {
+            time,
+            capture,
+            number,
+        },
+        key: numbers(key),
+        vals: numbers(&[]),
+    }
+}
+
 fn summaries(alloc: Global, rows: &[Short]) -> Result<SummaryList, Fail> {
     let mut list = SummaryList::new(alloc);
-    for (number, (time, capture, key)) in rows.iter().enumerate() {
-        let at = Stamp {
-            time: *time,
-            capture: *capture,
-            number: number as u64,
-        };
-        let summary = Summary {
-            at,
-            key: numbers(key),
-            vals: numbers(&[]),
-        };
-        let Ok(()) = list.push(summary) else {
+    for (number, row) in rows.iter().enumerate() {
+        let Ok(()) = list.push(summary(row, number as u64)) else {
             return Err(Fail::from("out of memory"));
         };
     }
@@ -58,6 +61,31 @@ fn shown(alloc: Global, groups: &GroupList) -> Result<Text, OutOfMemory> {
     Ok(text)
 }
 
+fn put(groups: &mut GroupList, group: Group) -> Result<(), Fail> {
+    match groups.push(group) {
+        Ok(()) => Ok(()),
+        Err(_) => Err(Fail::from("out of memory")),
+    }
+}
+
+/// The groups in the order in which they are given out: before each summary those that are over at its
+/// time, and all others at the end.
+fn one_by_one(alloc: Global, window: u64, list: &SummaryList) -> Result<GroupList, Fail> {
+    let mut given = GroupList::new(alloc);
+    let mut held = OpenGroups::new(alloc, window);
+    for i in 0..list.len() {
+        let summary = list.get(i);
+        while let Some(group) = held.next_over(summary.at.time) {
+            put(&mut given, group)?;
+        }
+        held.place(summary)?;
+    }
+    while let Some(group) = held.next() {
+        put(&mut given, group)?;
+    }
+    Ok(given)
+}
+
 fn groups_are(
     rt: &impl Abort,
     alloc: Global,
@@ -69,6 +97,9 @@ fn groups_are(
     assert!(rt; is_in_stamp_order(&list));
     let groups = central(alloc, &list, window)?;
     let text = shown(alloc, &groups)?;
+    assert_eq!(rt; text.as_str(), want);
+    let given = one_by_one(alloc, window, &list)?;
+    let text = shown(alloc, &given)?;
     assert_eq!(rt; text.as_str(), want);
     Ok(())
 }
@@ -141,10 +172,30 @@ fn lists_by_hand_give_their_groups(rt: HostRuntime) -> Result<(), Fail> {
 }
 
 #[test]
+fn a_group_is_given_out_once_its_window_is_over(rt: HostRuntime) -> Result<(), Fail> {
+    let alloc = rt.alloc();
+    let mut held = OpenGroups::new(alloc, 10);
+    assert!(rt; held.next_over(u64::MAX).is_none());
+    held.place(&summary(&(5, 0, &[7]), 0))?;
+    held.place(&summary(&(9, 0, &[8]), 1))?;
+    assert!(rt; held.next_over(15).is_none());
+    assert!(rt; held.next_over(16).is_some());
+    assert!(rt; held.next_over(16).is_none());
+    held.place(&summary(&(16, 0, &[7]), 2))?;
+    assert!(rt; held.next_over(19).is_none());
+    assert!(rt; held.next_over(20).is_some());
+    assert!(rt; held.next_over(20).is_none());
+    assert!(rt; held.next().is_some());
+    assert!(rt; held.next().is_none());
+    Ok(())
+}
+
+#[test]
 fn equal_and_falling_stamps_are_not_in_order(rt: HostRuntime) -> Result<(), Fail> {
     let alloc = rt.alloc();
     one_cut();
     one_grouping();
+    all_grouped();
     for (rows, want) in [
         (&[(5, 0, &[7][..]), (5, 1, &[7][..])][..], true),
         (&[(5, 1, &[7][..]), (5, 0, &[7][..])][..], false),

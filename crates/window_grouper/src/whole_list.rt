@@ -3,8 +3,7 @@ ghost use Rattle.ds_base.specs.Copies.{copies_of};
 ghost use Rattle.ds_base.specs.Order.{InStampOrder};
 ghost use Rattle.window_grouper.specs.Groups.{IsGroups, groups_of};
 
-use crate::newest::Newest;
-use crate::placing::place;
+use crate::open_groups::OpenGroups;
 use ds_base::{GroupList, OutOfMemory, SummaryList};
 use std::alloc::Global;
 
@@ -20,10 +19,23 @@ pub fn central(alloc: Global, list: &SummaryList, window: u64) -> Result<GroupLi
     ensures groups { IfOk result (λ groups. IsGroups window list.now.items (map copies_of groups.items)) }
     ensures exact { IfOk result (λ groups. map copies_of groups.items ≡ groups_of window list.now.items) }
 {
-    let mut groups = GroupList::new(alloc);
-    let mut newest = Newest::new(alloc);
+    let mut placed = OpenGroups::new(alloc, window);
     for i in 0..list.len() {
-        place(alloc, &mut groups, &mut newest, list.get(i), window)?;
+        placed.place(list.get(i))?;
+    }
+    all_of(alloc, placed)
+}
+
+/// All groups that are held. The only refusal is want of memory.
+fn all_of(alloc: Global, mut placed: OpenGroups) -> Result<GroupList, OutOfMemory>
+    ensures { IfOk result (λ groups. map copies_of groups.items ≡ placed.held) }
+{
+    let mut groups = GroupList::new(alloc);
+    while let Some(group) = placed.next() {
+        match groups.push(group) {
+            Ok(()) => {}
+            Err(_) => return Err(OutOfMemory),
+        }
     }
     Ok(groups)
 }

@@ -1,6 +1,6 @@
 ghost use Rattle.std.specs.Prelude.{◌≡◌};
 
-use crate::{in_stamp_order, one_order};
+use crate::{one_order, stamp_order};
 use ds_base::{Nums, Stamp, Summary, SummaryList};
 use std::test::Fail;
 
@@ -34,11 +34,24 @@ fn equal_times_are_ordered_by_capture_and_then_by_number(rt: HostRuntime) -> Res
     let Ok(()) = list.push(stamped(5, 0, 2)) else {
         return Err(Fail::from("out of memory"));
     };
-    let sorted = in_stamp_order(rt.alloc(), list)?;
-    assert_eq!(rt; sorted.len(), 4);
-    assert_eq!(rt; sorted.get(0).at, stamped(3, 2, 7).at);
-    assert_eq!(rt; sorted.get(1).at, stamped(5, 0, 2).at);
-    assert_eq!(rt; sorted.get(2).at, stamped(5, 0, 9).at);
-    assert_eq!(rt; sorted.get(3).at, stamped(5, 1, 0).at);
+    let order = stamp_order(rt.alloc(), &list)?;
+    assert_eq!(rt; order.as_slice(), &[2, 3, 1, 0][..]);
+    Ok(())
+}
+
+#[test]
+fn a_list_in_order_gives_its_positions_in_turn(rt: HostRuntime) -> Result<(), Fail> {
+    let mut list = SummaryList::new(rt.alloc());
+    let Ok(()) = list.push(stamped(3, 1, 0)) else {
+        return Err(Fail::from("out of memory"));
+    };
+    let Ok(()) = list.push(stamped(3, 1, 4)) else {
+        return Err(Fail::from("out of memory"));
+    };
+    let Ok(()) = list.push(stamped(5, 0, 2)) else {
+        return Err(Fail::from("out of memory"));
+    };
+    let order = stamp_order(rt.alloc(), &list)?;
+    assert_eq!(rt; order.as_slice(), &[0, 1, 2][..]);
     Ok(())
 }

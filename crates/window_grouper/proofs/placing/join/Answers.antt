@@ -1,6 +1,19 @@
-use Rattle.window_grouper.proofs.Steps.{joined}
+use Rattle.std.proofs.Common.{◌≡◌, Some, arith}
+use Rattle.std.specs.Prelude.{slice_get}
+use Rattle.std.proofs.lemmas.Option.{slice_get_read}
+use Rattle.window_grouper.proofs.Steps.{joined, refused}
 use Rattle.window_grouper.proofs.placing.join.Goals as goal
 
-pub returns-in-Ok : goal.returns-in-Ok
-returns-in-Ok c = joined c.args.groups.now.items c.args.i c.get_mut-group.result.now c.push.new.self c.args.s.now
-    c.get_mut-group.ensures.value c.in-Ok.ensures.pushed
+pub returns-in-Ok-clause-joined : goal.returns-in-Ok-clause-joined
+returns-in-Ok-clause-joined c =
+    let q = c.args.groups.now in
+    let at : slice_get q.items c.args.place ≡ Some c.index_mut-group.result.now =
+    slice_get_read q.items q.len c.args.place c.index_mut-group.result.now q.ok.0 (omega arith) c.index_mut-group.ensures.value in
+    joined q.items c.args.place c.index_mut-group.result.now c.push.new.self c.args.s.now at c.in-Ok.ensures.pushed
+
+pub returns-in-Err-clause-kept : goal.returns-in-Err-clause-kept
+returns-in-Err-clause-kept c =
+    let q = c.args.groups.now in
+    let at : slice_get q.items c.args.place ≡ Some c.index_mut-group.result.now =
+    slice_get_read q.items q.len c.args.place c.index_mut-group.result.now q.ok.0 (omega arith) c.index_mut-group.ensures.value in
+    refused q.items c.args.place c.index_mut-group.result.now c.push.new.self at c.in-Err.ensures.refused.1
