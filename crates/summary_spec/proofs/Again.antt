@@ -30,13 +30,13 @@ use Rattle.summary_spec.proofs.Said.{bound, ok_same}
 use Rattle.summary_spec.proofs.VarsAgain.{AllTakes, vars_kept, vars_again, items_many, pairs_many, counted}
 
 -- what is known of a job that was read, beside that it is lawful
-record IsSaid (d : Declared) : Type 0 where
-  captures : AllNew is_identifier [] d.captures
-  files : AllFiles d.files
-  vars : AllNew is_free [] d.vars
-  filter : expression Filter One d.vars d.captures d.filter_text ≡ Ok d.filter
-  key : AllApart [] d.key
-  query : Spelled d.vars d.captures d.query
+pub record IsSaid (d : Declared) : Type 0 where
+  pub captures : AllNew is_identifier [] d.captures
+  pub files : AllFiles d.files
+  pub vars : AllNew is_free [] d.vars
+  pub filter : expression Filter One d.vars d.captures d.filter_text ≡ Ok d.filter
+  pub key : AllApart [] d.key
+  pub query : Spelled d.vars d.captures d.query
 
 filter_spelled : (variables points : List (List ℕ)) (d : Data) (f : List ℕ × Expression) → filter variables points d ≡ Ok f
     → expression Filter One variables points f.0 ≡ Ok f.1
@@ -127,7 +127,7 @@ module _ (d : Declared) (lawful : IsLawful d) (known : IsSaid d) where
 
 -- ---- the whole
 
-json_said : (bytes : List ℕ) (d : Declared) → reads bytes ≡ Ok d → IsSaid d
+pub json_said : (bytes : List ℕ) (d : Declared) → reads bytes ≡ Ok d → IsSaid d
 unfolding reads
 json_said bytes d e =
     let one = bound (only_if Whole 0 (Limit (most_bytes + 1)) (nat_le (length bytes) most_bytes) bytes) _ d e in

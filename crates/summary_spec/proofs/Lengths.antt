@@ -137,7 +137,7 @@ names_short test short earlier [] all = refl
 names_short test short earlier (name ∷ names) all =
     rw (le-leb (length name) 32 (short name all.0)) (names_short test short (earlier ++ name ∷ []) names all.2)
 
-identifier_short : (name : List ℕ) → is_identifier name ≡ true → length name ≤ 32
+pub identifier_short : (name : List ℕ) → is_identifier name ≡ true → length name ≤ 32
 identifier_short name e =
     let one = and_parts (nat_le 1 (length name) && nat_le (length name) 32 && begins_word (slice_index name 0)) (list_all is_word_byte name) e in
     let two = and_parts (nat_le 1 (length name) && nat_le (length name) 32) (begins_word (slice_index name 0)) one.0 in

@@ -16,3 +16,5 @@ pub mod QueryAgain
 pub mod Again
 pub mod Depths
 pub mod Lengths
+pub mod CaptureNames
+pub mod Judged

@@ -16,7 +16,7 @@ longest = 3600000000000
 abbrev pub Counts : ℕ → ℕ → {T : Type 0} → List T → Type 0
 Counts least most xs = (least ≤ length xs) × (length xs ≤ most)
 
--- a text of an expression, and what it was parsed to in a scope of so many variables and captures
+-- an expression of a scope of so many variables and captures, beside a text that is short enough
 pub record IsParsed (scope : Scope) (vars captures : ℕ) (text : List ℕ) (e : Expression) : Type 0 where
   pub short : length text ≤ 1024
   pub terms : AllTerms (InScope scope vars captures) e

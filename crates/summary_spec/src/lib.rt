@@ -7,6 +7,7 @@ mod captures;
 mod count;
 mod filters;
 mod job;
+mod judge;
 mod kinds;
 mod numbers;
 mod patterns;
