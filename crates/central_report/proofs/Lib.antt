@@ -1,0 +1,13 @@
+pub mod Numbered
+pub mod Fewness
+pub mod Accepted
+pub mod Gathered
+pub mod Delaying
+pub mod Sorting
+pub mod Profiled
+pub mod Judging
+pub mod Lines
+pub mod Pieces
+pub mod Taking
+pub mod Underway
+pub mod Reporting

@@ -1,0 +1,4 @@
+pub mod Report
+pub mod Laws
+pub mod Answering
+pub mod Progress
