@@ -2,7 +2,7 @@ use Rattle.std.proofs.Common.{ℕ, List, ◌≡◌, ◌≤◌, ◌∙◌, sym, s
 use Rattle.command_words.specs.CommandLine.{Have}
 use Rattle.command_words.specs.CommandTable.{plain_kinds}
 use Rattle.command_words.specs.Words.{Asked, Accepts, command_of}
-use Rattle.command_words.specs.Words.Asked.{AskedCount, AskedStack, AskedCheck, AskedHelp, AskedVersion}
+use Rattle.command_words.specs.Words.Asked.{AskedCount, AskedStack, AskedCheck, AskedCentral, AskedHelp, AskedVersion}
 use Rattle.dshark_cli.specs.Run.{IsInLimits}
 
 -- what the words ask is in its limits
@@ -14,5 +14,6 @@ in_limits words (AskedCount field window file) h =
     subst (λ (n : ℕ). n ≤ 3600000000000) (sym same) number.3
 in_limits words (AskedStack port field file) h = tt
 in_limits words (AskedCheck job) h = tt
+in_limits words (AskedCentral job) h = tt
 in_limits words AskedHelp h = tt
 in_limits words AskedVersion h = tt

@@ -4,6 +4,7 @@ use Rattle.std.specs.Fmt.{decimal}
 use Rattle.ds_base.specs.declared.capture.PcapFault.{PcapFault}
 use Rattle.ds_base.specs.declared.capture.PcapFault.TheVariants.{PcapNg, Magic, ShortHeader, Version, LinkType, TooLong, TooMany}
 use Rattle.dshark_cli.specs.JobLine.{job_text}
+use Rattle.dshark_cli.specs.declared.fault.Stop.{Stop}
 use Rattle.dshark_cli.specs.declared.fault.RunFault.{RunFault}
 use Rattle.dshark_cli.specs.declared.fault.RunFault.TheVariants.{Usage, BadJob, Malformed, ReadFault, WriteFault, OutOfMemory}
 
@@ -17,19 +18,24 @@ what_text (LinkType link) = codes "link type " ++ decimal link
 what_text (TooLong number len) = codes "record " ++ decimal number ++ codes " length " ++ decimal len
 what_text TooMany = codes "records"
 
--- the fault, without the name of the program; the capture is named `c`
-abbrev pub fault_text : RunFault → List ℕ
-fault_text (Usage place) = codes "usage: word " ++ decimal place
-fault_text (BadJob fault) = job_text fault
-fault_text (Malformed capture at what) = codes "capture c: byte " ++ decimal at ++ codes ": " ++ what_text what
-fault_text (ReadFault file) = codes "read: file " ++ decimal file
-fault_text WriteFault = codes "write"
-fault_text OutOfMemory = codes "memory"
+-- the fault, without the name of the program; the name is that of the capture
+abbrev pub fault_text : (name : List ℕ) → RunFault → List ℕ
+fault_text name (Usage place) = codes "usage: word " ++ decimal place
+fault_text name (BadJob fault) = job_text fault
+fault_text name (Malformed capture at what) = codes "capture " ++ name ++ codes ": byte " ++ decimal at ++ codes ": " ++ what_text what
+fault_text name (ReadFault file) = codes "read: file " ++ decimal file
+fault_text name WriteFault = codes "write"
+fault_text name OutOfMemory = codes "memory"
 
-abbrev pub fault_line : RunFault → List ℕ
-fault_line fault = codes "dshark: " ++ fault_text fault ++ codes "\n"
+abbrev pub fault_line : (name : List ℕ) → RunFault → List ℕ
+fault_line name fault = codes "dshark: " ++ fault_text name fault ++ codes "\n"
 
 -- the line that a run owes to the standard error: none where it ends Ok
-abbrev pub owed_line : Option RunFault → List ℕ
-owed_line None = []
-owed_line (Some fault) = fault_line fault
+abbrev pub owed_line : (name : List ℕ) → Option RunFault → List ℕ
+owed_line name None = []
+owed_line name (Some fault) = fault_line name fault
+
+-- the line of how it stopped, with the name that it has
+abbrev pub line_of : Option Stop → List ℕ
+line_of None = []
+line_of (Some stop) = fault_line stop.name stop.fault

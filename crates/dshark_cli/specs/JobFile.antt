@@ -7,12 +7,13 @@ use Rattle.summary_spec.specs.Job.{declared_of}
 use Rattle.summary_spec.specs.Reads.{reads}
 use Rattle.dshark_cli.specs.declared.fault.RunFault.{RunFault}
 use Rattle.dshark_cli.specs.declared.fault.RunFault.TheVariants.{Usage, BadJob, Malformed, ReadFault, WriteFault, OutOfMemory}
-use Rattle.dshark_cli.specs.Jobs.{Declares, IsBadJob}
-use Rattle.dshark_cli.specs.Run.{IsUnread}
+use Rattle.dshark_cli.specs.Files.{IsUnread}
+use Rattle.dshark_cli.specs.Jobs.{Declares, IsDeclared, IsBadJob}
 
--- No read failed, and where the source tells, its bytes declare this job.
+-- No read failed, the bytes that were read declare this job, and where the source tells, these are its own.
 pub record TakesJob (before after : SourceSeen) (job : Job) : Type 0 where
   pub faults : after.faults ≡ before.faults
+  pub said : IsDeclared (declared_of job)
   pub declares : IsTrue before.told → reads before.whole ≡ Ok (declared_of job)
 
 -- Why no job was taken: the first fault of the bytes, a failed read, or no memory.
@@ -24,9 +25,10 @@ StopsTaking before after (ReadFault file) = (file ≡ 0) × Rose before.faults a
 StopsTaking before after WriteFault = ⊥
 StopsTaking before after OutOfMemory = after.faults ≡ before.faults
 
--- The file of that name was read, and where the folder tells, it declares this job.
+-- The file of that name was read, what was read declares this job, and where the folder tells, so does the file.
 pub record ReadsJob (before after : FolderSeen) (name : List ℕ) (job : Job) : Type 0 where
   pub faults : after.faults ≡ before.faults
+  pub said : IsDeclared (declared_of job)
   pub declares : IsTrue before.told → Declares before name (declared_of job)
 
 -- Why no job was read: the first fault of the file, a failed read or no such file, or no memory. Only a

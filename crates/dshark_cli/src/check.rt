@@ -8,7 +8,7 @@ ghost use Rattle.dshark_cli.specs.Run.{EndsOk, EndsBy, due};
 
 use crate::fault::RunFault;
 use crate::job_file::read_job;
-use crate::output::write_all;
+use crate::output::write_text;
 use ds_base::{Folder, OutOfMemory, Sink, Text};
 use std::alloc::Global;
 use summary_spec::Job;
@@ -32,10 +32,7 @@ pub fn run_check<F: Folder, O: Sink>(
     let Ok(text) = line_of(alloc, &job) else {
         return Err(RunFault::OutOfMemory);
     };
-    match write_all(out, text.as_str().as_bytes()) {
-        Ok(()) => Ok(()),
-        Err(_) => Err(RunFault::WriteFault),
-    }
+    write_text(out, text.as_str())
 }
 
 /// The canonical text of a job, and a newline.

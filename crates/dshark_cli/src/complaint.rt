@@ -1,56 +1,56 @@
-ghost use Rattle.std.specs.Prelude.{◌≡◌, ◌+◌, ◌≤◌, ◌++◌, length, IsTrue};
+ghost use Rattle.std.specs.Prelude.{◌≡◌, ◌+◌, ◌≤◌, ◌++◌, length, IsTrue, codes};
+ghost use Rattle.std.specs.Fmt.{decimal};
 ghost use Rattle.ds_base.specs.Faults.{IsQuiet};
 ghost use Rattle.ds_base.specs.Gain.{GainsPrefix};
 ghost use Rattle.ds_base.specs.Outside.{SinkStays};
-ghost use Rattle.dshark_cli.specs.FaultLine.{what_text, fault_text, fault_line, owed_line};
+ghost use Rattle.dshark_cli.specs.FaultLine.{what_text, fault_text, fault_line, line_of};
 
-use crate::fault::RunFault;
+use crate::capture_name::CaptureName;
+use crate::fault::{RunFault, Stop};
 use crate::job_complaint::push_job;
 use crate::line::Line;
 use crate::output::write_all;
 use ds_base::{PcapFault, Sink};
 
-/// Writes the line of a fault to the standard error, and nothing where there is none. A failure there
-/// changes nothing else. It takes no memory.
-pub fn complain<E: Sink>(err: &mut E, fault: &Option<RunFault>)
+/// Writes the line of how a run stopped to the standard error, and nothing where it ended Ok. A failure
+/// there changes nothing else. It takes no memory.
+pub fn complain<E: Sink>(err: &mut E, stop: &Option<Stop>)
     ensures stays { SinkStays (E.seen err.old) (E.seen err.new) }
-    ensures prefix { IsTrue (E.seen err.old).told → GainsPrefix (E.seen err.old).written (E.seen err.new).written (owed_line fault.now) }
+    ensures prefix { IsTrue (E.seen err.old).told → GainsPrefix (E.seen err.old).written (E.seen err.new).written (line_of stop.now) }
     ensures whole { IsTrue (E.seen err.old).told → IsQuiet (E.seen err.old).faults (E.seen err.new).faults →
-        (E.seen err.new).written ≡ (E.seen err.old).written ++ owed_line fault.now }
+        (E.seen err.new).written ≡ (E.seen err.old).written ++ line_of stop.now }
 {
-    if let Some(fault) = fault {
-        let line = line_of(fault);
+    if let Some(stop) = stop {
+        let line = line_of(stop);
         let _ = write_all(err, line.bytes());
     }
 }
 
-/// The line of a fault.
-fn line_of(fault: &RunFault) -> Line
-    ensures { result ≡ fault_line fault.now }
+/// The line of a stop.
+fn line_of(stop: &Stop) -> Line
+    ensures { result ≡ fault_line stop.now.name stop.now.fault }
 {
     let mut line = Line::new();
     line.push(b"dshark: ");
-    push_fault(&mut line, fault);
+    push_fault(&mut line, stop);
     line.push(b"\n");
     line
 }
 
 /// Puts the text of a fault at the end.
-fn push_fault(line: &mut Line, fault: &RunFault)
-    requires { length line.old ≤ 16 }
-    ensures text { line.new ≡ line.old ++ fault_text fault.now }
-    ensures short { length line.new ≤ length line.old + 170 }
+fn push_fault(line: &mut Line, stop: &Stop)
+    requires { length line.old ≤ 8 }
+    ensures text { line.new ≡ line.old ++ fault_text stop.now.name stop.now.fault }
+    ensures short { length line.new ≤ length line.old + 190 }
 {
-    match fault {
+    match &stop.fault {
         RunFault::Usage { place } => {
             line.push(b"usage: word ");
             line.push_number(u128::from(*place));
         }
         RunFault::BadJob(fault) => push_job(line, fault),
         RunFault::Malformed { at, what, .. } => {
-            line.push(b"capture c: byte ");
-            line.push_number(u128::from(*at));
-            line.push(b": ");
+            push_place(line, &stop.name, *at);
             push_what(line, what);
         }
         RunFault::ReadFault { file } => {
@@ -62,11 +62,24 @@ fn push_fault(line: &mut Line, fault: &RunFault)
     }
 }
 
+/// Puts the place of a malformed capture at the end.
+fn push_place(line: &mut Line, name: &CaptureName, at: u64)
+    requires { length line.old ≤ 8 }
+    ensures text { line.new ≡ line.old ++ (codes "capture " ++ name.now ++ codes ": byte " ++ decimal at ++ codes ": ") }
+    ensures short { length line.new ≤ length line.old + 89 }
+{
+    line.push(b"capture ");
+    line.push(name.bytes());
+    line.push(b": byte ");
+    line.push_number(u128::from(at));
+    line.push(b": ");
+}
+
 /// Puts at the end what is wrong with a capture.
 fn push_what(line: &mut Line, what: &PcapFault)
-    requires { length line.old ≤ 80 }
+    requires { length line.old ≤ 100 }
     ensures text { line.new ≡ line.old ++ what_text what.now }
-    ensures short { length line.new ≤ length line.old + 100 }
+    ensures short { length line.new ≤ length line.old + 95 }
 {
     match what {
         PcapFault::PcapNg => line.push(b"pcapng"),

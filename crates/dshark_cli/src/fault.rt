@@ -1,3 +1,6 @@
+ghost use Rattle.std.specs.Prelude.{◌≡◌, codes};
+
+use crate::capture_name::CaptureName;
 use ds_base::PcapFault;
 use summary_spec::JobFault;
 
@@ -25,4 +28,26 @@ pub enum RunFault {
     WriteFault,
     /// There was no memory.
     OutOfMemory,
+}
+
+/// How a run stopped.
+#[derive(Drop)]
+pub struct Stop {
+    /// Why it did not end Ok.
+    pub fault: RunFault,
+    /// The name of the capture, where one is malformed.
+    pub name: CaptureName,
+}
+
+impl Stop {
+    /// The stop by a fault of a command that has no job. Its capture is named `c`.
+    pub fn unnamed(fault: RunFault) -> Self
+        ensures fault { result.fault ≡ fault }
+        ensures name { result.name ≡ codes "c" }
+    {
+        Stop {
+            fault,
+            name: CaptureName::new(b"c"),
+        }
+    }
 }

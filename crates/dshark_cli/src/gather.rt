@@ -20,7 +20,8 @@ use summary_spec::Job;
 const PIECE: usize = 262_144;
 
 /// Reads the capture of the job that has this number to its end. The summaries of its accepted records
-/// go to the end of `accepted`, and the counts say how all its records fared.
+/// go to the end of `accepted`, and the counts say how all its records fared. Capture k's file is number
+/// k + 1 of a fault.
 pub fn read_capture<S: Source>(
     alloc: Global,
     job: &Job,
@@ -32,8 +33,8 @@ pub fn read_capture<S: Source>(
     requires capture { capture < length job.now.names.captures.items }
     ensures stays { SourceStays (S.seen source.old) (S.seen source.new) }
     ensures ends { MatchResult result
-        (GathersAll (declared_of job.now) capture (S.seen source.old) (S.seen source.new) accepted.old.items accepted.new.items)
-        (StopsRead capture (S.seen source.old) (S.seen source.new)) }
+        (GathersAll (declared_of job.now) capture (S.seen source.old) (S.seen source.old).faults (S.seen source.new).faults accepted.old.items accepted.new.items)
+        (StopsRead capture (S.seen source.old) (S.seen source.old).faults (S.seen source.new).faults) }
 {
     let Ok(mut buffer) = vec![in alloc; 0u8; PIECE] else {
         return Err(RunFault::OutOfMemory);
@@ -61,6 +62,7 @@ pub fn read_capture<S: Source>(
 }
 
 /// Feeds a source to its end and takes up all whole records.
+#[tactic(auto, using(crate::proofs::JobCaptures::few_captures))]
 fn read_all<S: Source>(
     job: &Job,
     capture: u32,
@@ -76,17 +78,18 @@ fn read_all<S: Source>(
     requires unfed { StandsFor reader.old [] [] }
     requires none { bytes_fed reader.old ≡ 0 }
     requires given { records_taken tally.old ≡ records_given reader.old }
+    requires capture { capture < length job.now.names.captures.items }
     requires named { capture_of tally.old < length job.now.names.captures.items }
     requires untaken { Collects (declared_of job.now) capture tally.old accepted.old.items accepted.old.items [] }
     ensures stays { SourceStays (S.seen source.old) (S.seen source.new) }
     ensures ends { MatchResult result
         (λ _. IsReadWhole (declared_of job.now) capture (S.seen source.old) (S.seen source.new) reader.new tally.new accepted.old.items accepted.new.items)
-        (StopsRead capture (S.seen source.old) (S.seen source.new)) }
+        (StopsRead capture (S.seen source.old) (S.seen source.old).faults (S.seen source.new).faults) }
 {
     'pieces: loop {
         drain(job, capture, reader, tally, accepted)?;
         let Ok(n) = source.read(buffer) else {
-            return Err(RunFault::ReadFault { file: 0 });
+            return Err(RunFault::ReadFault { file: capture + 1 });
         };
         if n == 0 {
             return Ok(());

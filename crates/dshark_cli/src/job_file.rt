@@ -4,7 +4,8 @@ ghost use Rattle.ds_base.specs.Outside.{IsFresh, FolderStays, SourceStays};
 ghost use Rattle.dshark_cli.specs.JobFile.{TakesJob, StopsTaking, ReadsJob, StopsJob};
 
 use crate::fault::RunFault;
-use ds_base::{Failed, Folder, NoFile, Source};
+use crate::open::open_file;
+use ds_base::{Failed, Folder, Source};
 use std::alloc::Global;
 use summary_spec::{Job, ReadJobFault};
 
@@ -19,12 +20,7 @@ pub fn read_job<F: Folder>(alloc: Global, file: &str, folder: &mut F) -> Result<
         (ReadsJob (F.seen folder.old) (F.seen folder.new) file.now)
         (StopsJob (F.seen folder.old) (F.seen folder.new) file.now) }
 {
-    let mut source = match folder.open(file) {
-        Ok(source) => source,
-        Err(NoFile::OutOfMemory) => return Err(RunFault::OutOfMemory),
-        Err(NoFile::Missing) => return Err(RunFault::ReadFault { file: 0 }),
-        Err(NoFile::Failed) => return Err(RunFault::ReadFault { file: 0 }),
-    };
+    let mut source = open_file(folder, file, 0)?;
     let job = take_job(alloc, &mut source);
     folder.give_back(source);
     job

@@ -3,6 +3,11 @@
 //! the real files and streams and ends with its status.
 #![tactic(auto)]
 
+mod capture_name;
+mod captures;
+mod central;
+#[cfg(test)]
+mod central_tests;
 mod check;
 #[cfg(test)]
 mod check_tests;
@@ -13,10 +18,11 @@ mod fault;
 mod gather;
 mod job_complaint;
 mod job_file;
+mod job_report;
 mod line;
+mod open;
 mod output;
 mod printer;
-mod report;
 mod stack;
 mod stack_lines;
 #[cfg(test)]
@@ -28,7 +34,7 @@ mod tool;
 use complaint::complain;
 use ds_base::{ListChooser, OpenGate};
 use ends::{FileFolder, StreamSink};
-use fault::RunFault;
+use fault::{RunFault, Stop};
 use std::env;
 use std::process::ExitCode;
 use tool::run_tool;
@@ -42,7 +48,7 @@ fn main(rt: HostRuntime) -> ExitCode {
     let mut words = Vec::new(rt.alloc());
     if let Ok(arguments) = env::args(&rt) {
         let Ok(texts) = arguments.skip(1).collect::<Vec<String>>(rt.alloc()) else {
-            complain(&mut err, &Some(RunFault::OutOfMemory));
+            complain(&mut err, &Some(Stop::unnamed(RunFault::OutOfMemory)));
             return ExitCode::from(6);
         };
         words = texts;

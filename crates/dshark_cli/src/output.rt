@@ -3,6 +3,7 @@ ghost use Rattle.ds_base.specs.Faults.{Rose};
 ghost use Rattle.ds_base.specs.Outside.{SinkStays};
 ghost use Rattle.ds_base.specs.Gain.{GainsPrefix};
 
+use crate::fault::RunFault;
 use ds_base::{Failed, Sink};
 
 /// Writes a text. Each write offers all that is left of it, and a failed write ends it.
@@ -19,4 +20,19 @@ pub fn write_all<O: Sink>(out: &mut O, text: &[u8]) -> Result<(), Failed>
         written += out.write(&text[written..])?;
     }
     Ok(())
+}
+
+/// Writes a text, as the last step of a command.
+pub fn write_text<O: Sink>(out: &mut O, text: &str) -> Result<(), RunFault>
+    ensures stays { SinkStays (O.seen out.old) (O.seen out.new) }
+    ensures faults { MatchResult result
+        (λ _. (O.seen out.new).faults ≡ (O.seen out.old).faults)
+        (λ fault. (fault ≡ RunFault.WriteFault) × Rose (O.seen out.old).faults (O.seen out.new).faults) }
+    ensures prefix { IsTrue (O.seen out.old).told → GainsPrefix (O.seen out.old).written (O.seen out.new).written text.now }
+    ensures whole { IsTrue (O.seen out.old).told → OnOk result ((O.seen out.new).written ≡ (O.seen out.old).written ++ text.now) }
+{
+    match write_all(out, text.as_bytes()) {
+        Ok(()) => Ok(()),
+        Err(_) => Err(RunFault::WriteFault),
+    }
 }

@@ -9,9 +9,10 @@ ghost use Rattle.dshark_cli.specs.Printing.{lines_by, report_by, HasPrinted, Has
 ghost use Rattle.dshark_cli.specs.Run.{due, EndsOk, EndsBy};
 
 use crate::fault::RunFault;
+use crate::open::open_file;
 use crate::printer::Printer;
 use crate::stack_lines::Asking;
-use ds_base::{Folder, NoFile, Sink, Source};
+use ds_base::{Folder, Sink, Source};
 use field_table::FieldRef;
 use pcap_reader::PcapReader;
 use std::alloc::Global;
@@ -37,12 +38,7 @@ pub fn run_stack<F: Folder, O: Sink>(
         (λ _. EndsOk (AskedStack port field file.now) (F.seen folder.old) (F.seen folder.new) (O.seen out.old) (O.seen out.new))
         (EndsBy (AskedStack port field file.now) (F.seen folder.old) (F.seen folder.new) (O.seen out.old) (O.seen out.new)) }
 {
-    let mut source = match folder.open(file) {
-        Ok(source) => source,
-        Err(NoFile::OutOfMemory) => return Err(RunFault::OutOfMemory),
-        Err(NoFile::Missing) => return Err(RunFault::ReadFault { file: 0 }),
-        Err(NoFile::Failed) => return Err(RunFault::ReadFault { file: 0 }),
-    };
+    let mut source = open_file(folder, file, 0)?;
     let ended = print_capture(alloc, Asking { port, field }, &mut source, out);
     folder.give_back(source);
     ended

@@ -8,7 +8,7 @@ use std::test::Fail;
 use std::thread::Threads;
 
 /// VXLAN of network 100 that holds an Ethernet frame of IPv4 with identification 7.
-const VXLAN: [u8; 92] = [
+pub(crate) const VXLAN: [u8; 92] = [
     2, 0, 0, 0, 0, 4, 2, 0, 0, 0, 0, 3, 8, 0, 0x45, 0, 0, 0x4E, 0, 1, 0, 0, 0x40, 0x11, 0, 0, 0x0A,
     1, 0, 1, 0x0A, 1, 0, 2, 0xC0, 0, 0x12, 0xB5, 0, 0x3A, 0, 0, 8, 0, 0, 0, 0, 0, 0x64, 0, 2, 0, 0,
     0, 0, 2, 2, 0, 0, 0, 0, 1, 8, 0, 0x45, 0, 0, 0x1C, 0, 7, 0, 0, 0x40, 0x11, 0, 0, 0x0A, 0, 0, 1,
@@ -16,7 +16,7 @@ const VXLAN: [u8; 92] = [
 ];
 
 /// GRE with key 5 that holds IPv4 with identification 7.
-const GRE: [u8; 70] = [
+pub(crate) const GRE: [u8; 70] = [
     2, 0, 0, 0, 0, 4, 2, 0, 0, 0, 0, 3, 8, 0, 0x45, 0, 0, 0x38, 0, 1, 0, 0, 0x40, 0x2F, 0, 0, 0x0A,
     1, 0, 1, 0x0A, 1, 0, 2, 0x20, 0, 8, 0, 0, 0, 0, 5, 0x45, 0, 0, 0x1C, 0, 7, 0, 0, 0x3F, 0x11, 0,
     0, 0x0A, 0, 0, 1, 0x0A, 0, 0, 2, 4, 0xD2, 0, 0x35, 0, 8, 0, 0,

@@ -20,12 +20,13 @@ pub(crate) struct Left {
     pub(crate) err: Vec<u8>,
 }
 
-/// How the outside behaves: bytes a read and a write, and the numbers of a read, of a write and of a
-/// write to the standard error that fail.
+/// How the outside behaves: bytes a read and a write, the numbers of a read of a file (by its position in
+/// the folder), of a write and of a write to the standard error that fail.
 #[derive(Clone, Copy)]
 pub(crate) struct Outside {
     pub(crate) read: u32,
     pub(crate) write: u32,
+    pub(crate) failing_file: u32,
     pub(crate) failing_read: Option<u32>,
     pub(crate) failing_write: Option<u32>,
     pub(crate) failing_complaint: Option<u32>,
@@ -34,6 +35,7 @@ pub(crate) struct Outside {
 pub(crate) const CALM: Outside = Outside {
     read: 4096,
     write: 4096,
+    failing_file: 0,
     failing_read: None,
     failing_write: None,
     failing_complaint: None,
@@ -57,26 +59,32 @@ fn words(alloc: Global, line: &str) -> Result<Vec<String>, AllocError> {
     Ok(words)
 }
 
-fn folder(alloc: Global, capture: &[u8], outside: Outside) -> Result<MemFolder, AllocError> {
-    let mut name = Text::new(alloc);
-    if name.push_str("a").is_err() {
-        return Err(AllocError);
-    }
-    let file = NamedFile {
-        name,
-        bytes: capture.to_vec(alloc)?,
-    };
+/// A file in memory: its name and its bytes.
+pub(crate) type Named<'a> = (&'a str, &'a [u8]);
+
+fn folder(alloc: Global, named: &[Named<'_>], outside: Outside) -> Result<MemFolder, AllocError> {
     let mut files = FileList::new(alloc);
-    if files.push(file).is_err() {
-        return Err(AllocError);
+    for (name, bytes) in named {
+        let mut text = Text::new(alloc);
+        if text.push_str(name).is_err() {
+            return Err(AllocError);
+        }
+        let file = NamedFile {
+            name: text,
+            bytes: bytes.to_vec(alloc)?,
+        };
+        if files.push(file).is_err() {
+            return Err(AllocError);
+        }
     }
     let mut failing = Vec::new(alloc);
     if let Some(n) = outside.failing_read {
-        failing.push((0, n))?;
+        failing.push((outside.failing_file, n))?;
     }
     Ok(MemFolder::new(alloc, files, outside.read.max(1), failing))
 }
 
+/// A run over a folder that has one file, named `a`.
 pub(crate) fn run<R: Threads + Sync>(
     rt: &R,
     alloc: Global,
@@ -84,8 +92,19 @@ pub(crate) fn run<R: Threads + Sync>(
     capture: &[u8],
     outside: Outside,
 ) -> Result<Left, AllocError> {
+    run_over(rt, alloc, line, &[("a", capture)], outside)
+}
+
+/// A run over a folder that has these files.
+pub(crate) fn run_over<R: Threads + Sync>(
+    rt: &R,
+    alloc: Global,
+    line: &str,
+    files: &[Named<'_>],
+    outside: Outside,
+) -> Result<Left, AllocError> {
     let words = words(alloc, line)?;
-    let mut folder = folder(alloc, capture, outside)?;
+    let mut folder = folder(alloc, files, outside)?;
     let mut out = MemSink::new(
         alloc,
         outside.write.max(1),

@@ -1,25 +1,27 @@
-use Rattle.std.proofs.Common.{ℕ, List, ◌≡◌, ◌∙◌, sym, ap, subst}
-use Rattle.command_words.specs.Words.Asked.{AskedCount}
-use Rattle.ds_base.specs.Gain.{GainsPrefix}
-use Rattle.dshark_cli.specs.Run.{due_from}
+use Rattle.summary_spec.specs.Job.{declared_of}
 use Rattle.dshark_cli.proofs.Gaining.{gains_nothing}
+use Rattle.dshark_cli.proofs.Reported.{count_prefix, count_ok, count_stops}
 use Rattle.dshark_cli.proofs.count.run_count.Goals as goal
 
-pub returns-in_err-text-clause-prefix : goal.returns-in_err-text-clause-prefix
-returns-in_err-text-clause-prefix g c folder out = gains_nothing _ _
+pub returns-in_default-clause-prefix : goal.returns-in_default-clause-prefix
+returns-in_default-clause-prefix g c folder out = gains_nothing _ _
 
-pub returns-in-Ok-clause-prefix : goal.returns-in-Ok-clause-prefix
-returns-in-Ok-clause-prefix g c folder out =
-    let reports = c.in_ok-text.ensures.ends in
-    let text : c.as_bytes.result.now ≡ c.in_ok-text.text.items = c.as_bytes.ensures.value ∙ c.as_str.ensures in
-    let owed = ap (due_from (AskedCount c.args.field c.args.window c.args.file.now)) (reports.file folder) in
-    let P : List ℕ → Type 0 = λ due. GainsPrefix (g.O.Sink.seen c.args.out.now).written (g.O.Sink.seen c.write_all.new.out).written due in
-    subst P (text ∙ reports.says ∙ sym owed) (c.in-Ok.ensures.prefix out)
+pub returns-in-Ok-write_report-clause-prefix : goal.returns-in-Ok-write_report-clause-prefix
+returns-in-Ok-write_report-clause-prefix g c folder out =
+    count_prefix (declared_of c.in-Ok.job) (g.F.Folder.seen c.args.folder.now) c.args.field c.args.window c.args.file.now (g.O.Sink.seen c.args.out.now).written (g.O.Sink.seen c.write_report.new.out).written
+    c.in-Ok.ensures (c.write_report.ensures.prefix folder out)
+
+pub returns-in-Ok-write_report-clause-ends : goal.returns-in-Ok-write_report-clause-ends
+returns-in-Ok-write_report-clause-ends g c =
+    count_ok (declared_of c.in-Ok.job) c.args.field c.args.window c.args.file.now (g.F.Folder.seen c.args.folder.now) (g.F.Folder.seen c.write_report.new.folder) (g.O.Sink.seen c.args.out.now) (g.O.Sink.seen c.write_report.new.out)
+    c.in-Ok.ensures c.in-Ok-write_report.ensures.ends
 
 pub returns-clause-prefix : goal.returns-clause-prefix
 returns-clause-prefix g c folder out =
-    let reports = c.in_ok-text.ensures.ends in
-    let text : c.as_bytes.result.now ≡ c.in_ok-text.text.items = c.as_bytes.ensures.value ∙ c.as_str.ensures in
-    let owed = ap (due_from (AskedCount c.args.field c.args.window c.args.file.now)) (reports.file folder) in
-    let P : List ℕ → Type 0 = λ due. GainsPrefix (g.O.Sink.seen c.args.out.now).written (g.O.Sink.seen c.write_all.new.out).written due in
-    subst P (text ∙ reports.says ∙ sym owed) (c.in-Err.ensures.prefix out)
+    count_prefix (declared_of c.in-Ok.job) (g.F.Folder.seen c.args.folder.now) c.args.field c.args.window c.args.file.now (g.O.Sink.seen c.args.out.now).written (g.O.Sink.seen c.write_report.new.out).written
+    c.in-Ok.ensures (c.write_report.ensures.prefix folder out)
+
+pub returns-clause-ends : goal.returns-clause-ends
+returns-clause-ends g c =
+    rw c.of_first_file.ensures (count_stops (declared_of c.in-Ok.job) c.args.field c.args.window c.args.file.now (g.F.Folder.seen c.args.folder.now) (g.F.Folder.seen c.write_report.new.folder) (g.O.Sink.seen c.args.out.now) (g.O.Sink.seen c.write_report.new.out)
+    c.in-Err.fault c.in-Ok.ensures c.in-Err.ensures.ends)

@@ -8,6 +8,7 @@ use Rattle.dshark_cli.proofs.job_file.take_job.Goals as goal
 pub returns-in-Ok-read-clause-ends : goal.returns-in-Ok-read-clause-ends
 returns-in-Ok-read-clause-ends g c = record {
   faults = c.in-Ok-fill.ensures.faults;
+  said = (take c.in-Ok-fill.len c.deref.result.now, c.in-Ok-read.ensures);
   declares = λ told.
       let long : length c.fill.new.buffer ≡ c.in-Ok.buffer.len = omega (arith, c.in-Ok.ensures.len, c.as_mut_slice.ensures.len, c.fill.auto.buffer) in
       let same : c.deref.result.now ≡ c.fill.new.buffer = c.deref.ensures.value ∙ take_at c.fill.new.buffer _ c.in-Ok.buffer.len long in
