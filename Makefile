@@ -1,8 +1,9 @@
-# make demo      builds the proved program, and prints the report of the sample capture
+# make demo      builds the proved program, and prints the reports of the sample capture and of the sample network
 # make test      the gate: every proof, edit, test and program, then the repository's own checks
 # make install   puts the built program in PREFIX/bin, and its manual page in PREFIX/share/man/man1
 PREFIX ?= /usr/local
 SAMPLE = samples/one-link.pcap
+NETWORK = samples/network
 PROGRAM = crates/dshark_cli/out/dshark_cli
 
 .PHONY: demo test install
@@ -10,6 +11,8 @@ PROGRAM = crates/dshark_cli/out/dshark_cli
 # `rt run` proves the program and the crates below it, builds it, and runs it with the words behind `--`.
 demo:
 	cd crates/dshark_cli && rt run -- count 'ipv4[0].id' 1000000 ../../$(SAMPLE)
+	cd $(NETWORK) && '$(CURDIR)/$(PROGRAM)' central job.json
+	cd $(NETWORK) && '$(CURDIR)/$(PROGRAM)' central drop.json
 
 test:
 	.ci/run

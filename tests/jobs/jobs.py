@@ -57,7 +57,7 @@ def main():
 
     with open("docs/JOBS.md", encoding="utf-8") as file:
         accepted = re.findall(r"```json\n(.*?)```", file.read(), re.S)
-    for sample in sorted(glob.glob("samples/*.json")):
+    for sample in sorted(glob.glob("samples/**/*.json", recursive=True)):
         with open(sample, encoding="utf-8") as file:
             accepted.append(file.read())
     for text in accepted:

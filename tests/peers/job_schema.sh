@@ -33,7 +33,7 @@ def says(text, expected):
 with open("docs/JOBS.md", encoding="utf-8") as file:
     for text in re.findall(r"```json\n(.*?)```", file.read(), re.S):
         says(text, True)
-for sample in sorted(glob.glob("samples/*.json")):
+for sample in sorted(glob.glob("samples/**/*.json", recursive=True)):
     with open(sample, encoding="utf-8") as file:
         says(file.read(), True)
 with open("tests/jobs/refused.txt", encoding="utf-8") as file:

@@ -1,0 +1,163 @@
+"""central_variations.py FOLDER: makes a folder for each of some jobs on small networks, with job.json and its captures.
+
+Packets and files are made by samples/network/make_network.py.
+"""
+
+import json
+import os
+import random
+import sys
+
+sys.path.insert(0, os.path.join(os.path.dirname(os.path.abspath(__file__)), "../../samples/network"))
+sys.dont_write_bytecode = True
+from make_network import START, SECOND, captured, datagram, ethernet, ipv4, pcap, question, udp, wrapped
+
+WRAPPINGS = ("bare", "vxlan", "gre")
+VARIABLES = [{"name": "id", "take": ["ipv4[-1].id"]}, {"name": "ttl", "take": ["ipv4[-1].ttl"]}]
+LOOP = {"kind": "loop", "hop": "ttl"}
+
+
+def job(captures, query=LOOP, window=1_000_000, skew=0, profile=True, key=("id",)):
+    declared = [{"name": name, "file": name + ".pcap"} for name in captures]
+    rest = {"key": list(key), "window": window, "skew": skew, "profile": profile, "query": query}
+    return {"version": 1, "captures": declared, "vars": VARIABLES, **rest}
+
+
+def files(records, **form):
+    return {name: pcap(of, **form) for name, of in records.items()}
+
+
+def copy(time, identification, ttl=64, wrapping="bare"):
+    """A record: its time in nanoseconds from the start, and its frame."""
+    return START + time, wrapped(wrapping, datagram(identification, ttl, b"copy"), 40_000)
+
+
+def cut():
+    """Files that end inside the last record's bytes, one byte into them, inside its header, and behind its header."""
+    whole = files(captured())
+    last = {name: 16 + len(of[-1][1]) for name, of in captured().items()}
+    less = {"s1": 10, "s2": last["s2"] - 17, "s3": last["s3"] - 9, "s4": last["s4"] - 16}
+    return job(whole, window=10_000_000), {name: of[:-less[name]] for name, of in whole.items()}
+
+
+def equal_times():
+    """Copies at one time, in several captures and in one: they stand in the order of captures, then of records."""
+    records = {
+        "s1": [copy(0, 7, 64), copy(0, 8, 64), copy(0, 7, 63), copy(5, 9, 60)],
+        "s2": [copy(0, 8, 63, "vxlan"), copy(0, 7, 62, "gre"), copy(0, 9, 61), copy(5, 9, 59)],
+        "s3": [copy(0, 9, 64), copy(0, 7, 64)],
+    }
+    return job(records), files(records)
+
+
+def window_ends():
+    """Copies at the end of the window and a nanosecond behind it, where another group begins, twice."""
+    records = {
+        "s1": [copy(0, 7), copy(1_000_001, 7), copy(2_000_001, 7, 63)],
+        "s2": [copy(1_000_000, 7, 63), copy(2_000_002, 7)],
+    }
+    return job(records), files(records)
+
+
+def no_window():
+    """A window of 0: copies at one time alone are a group."""
+    records = {"s1": [copy(0, 7), copy(0, 7, 63), copy(1, 7)], "s2": [copy(0, 7), copy(1, 7)]}
+    return job(records, window=0), files(records)
+
+
+def late():
+    """Records out of order: by the skew, by a nanosecond more, and behind a newest that has no identification."""
+    records = {
+        "s1": [copy(1_000, 7), copy(500, 8), copy(499, 9), (START + 2_000, question("s1")), copy(1_499, 10), copy(1_500, 11)],
+        "s2": [copy(0, 9), copy(900, 7, 60), (START, question("s1")), copy(400, 8, 60)],
+    }
+    return job(records, skew=500), files(records)
+
+
+def empty():
+    """A capture without records, and one without IPv4."""
+    return job(["s1", "s2"]), files({"s1": [], "s2": [(START, question("s1"))]})
+
+
+def raw_ip():
+    """Packets without Ethernet, beside the same on Ethernet."""
+    packets = [(START + k * 1_000, datagram(k % 7, 64 - k, b"raw")) for k in range(20)]
+    frames = [(time + 300, ethernet(packet)) for time, packet in packets]
+    return job(["raw", "eth"]), {"raw": pcap(packets, link=101), "eth": pcap(frames)}
+
+
+def odd_inner():
+    """VXLAN that carries ARP, and IPv4 in IPv4: the last IPv4 header counts."""
+    arp = bytes.fromhex("0800000000006400") + question("s1")
+    in_vxlan = ethernet(ipv4(bytes(4), bytes(4), 17, 77, 9, udp(1, 4789, arp)))
+    twice = ethernet(ipv4(bytes(4), bytes(4), 4, 78, 9, datagram(77, 8, b"inner")))
+    records = {"s1": [(START, in_vxlan), (START + 10, twice)], "s2": [copy(5, 78)]}
+    return job(records), files(records)
+
+
+def drops():
+    """Two exits, of which packets pass none, one or both; no delays are asked for."""
+    records = {"a": [], "b": [], "c": [], "d": []}
+    for k in range(16):
+        for bit, name in enumerate(records):
+            if k >> bit & 1:
+                records[name].append(copy(1_000 * k + 10 * bit, k, 64 - bit))
+    return job(records, {"kind": "drop", "exits": ["d", "b"]}, profile=False), files(records)
+
+
+def all_of_network(query, **form):
+    return job(captured(), query, window=10_000_000), files(captured(), **form)
+
+
+def traffic(seed, query, **asked):
+    """Random copies of few identifications in four captures, wrapped in turn, a little out of order."""
+    draw = random.Random(seed)
+    records = {f"point_{k}": [] for k in range(4)}
+    for number in range(300):
+        time = number * 400 + draw.randrange(3) * draw.randrange(2_000)
+        record = copy(time, draw.randrange(12), draw.randrange(50, 65), WRAPPINGS[number % 3])
+        records[draw.choice(list(records))].append(record)
+    made = {name: pcap(of, draw.choice("<>"), draw.random() < 0.5) for name, of in records.items()}
+    return job(records, query, **asked), made
+
+
+def hours():
+    """Delays up to the longest window, an hour."""
+    records = {"s1": [copy(0, 7), copy(0, 8)], "s2": [copy(3_600 * SECOND, 7), copy(3_600 * SECOND + 1, 8)]}
+    return job(records, window=3_600 * SECOND), files(records)
+
+
+VARIATIONS = {
+    "cut": cut(),
+    "equal-times": equal_times(),
+    "window-ends": window_ends(),
+    "no-window": no_window(),
+    "late": late(),
+    "empty": empty(),
+    "raw-ip": raw_ip(),
+    "odd-inner": odd_inner(),
+    "drops": drops(),
+    "hours": hours(),
+    "microseconds": all_of_network(LOOP, nanoseconds=False),
+    "big-endian": all_of_network({"kind": "all"}, order=">"),
+    "big-endian-microseconds": all_of_network({"kind": "drop", "exits": ["s1"]}, order=">", nanoseconds=False),
+    "loops-of-traffic": traffic(1, LOOP, window=20_000, skew=2_000),
+    "drops-of-traffic": traffic(2, {"kind": "drop", "exits": ["point_2"]}, window=9_000, skew=100),
+    "no-skew-in-traffic": traffic(3, LOOP, window=100_000),
+    "two-keys-in-traffic": traffic(4, {"kind": "all"}, window=3_600_000, skew=60_000, key=("ttl", "id")),
+}
+
+
+def main():
+    for name, (declared, captures) in VARIATIONS.items():
+        folder = os.path.join(sys.argv[1], name)
+        os.makedirs(folder)
+        with open(os.path.join(folder, "job.json"), "w", encoding="utf-8") as file:
+            json.dump(declared, file, indent=2)
+        for capture, octets in captures.items():
+            with open(os.path.join(folder, capture + ".pcap"), "wb") as file:
+                file.write(octets)
+
+
+if __name__ == "__main__":
+    main()
