@@ -18,8 +18,9 @@ use window_grouper::{OpenGroups, stamp_order};
 /// The whole report of a job over the accepted summaries of its captures, in any order, and the counts
 /// of each capture in the order of their numbers. The only refusal is want of memory.
 ///
-/// Each group is answered once its window is over, and is then let go: beside the list only those
-/// summaries are in memory whose groups may still gain a member.
+/// Each group is answered once its window is over, and is then let go. So beside the list it holds the
+/// text, the places of the list in the order of stamps, and the groups that may still gain a member.
+/// It takes time in the number of summaries times its logarithm.
 pub fn central_text(
     alloc: Global,
     job: &Job,

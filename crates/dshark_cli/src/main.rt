@@ -7,6 +7,10 @@ mod capture_name;
 mod captures;
 mod central;
 #[cfg(test)]
+mod central_faults;
+#[cfg(test)]
+mod central_files;
+#[cfg(test)]
 mod central_tests;
 mod check;
 #[cfg(test)]
