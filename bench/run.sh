@@ -20,61 +20,8 @@ while getopts n:c:r:t:T: option; do
 done
 shift $((OPTIND - 1))
 here=$(cd "$(dirname "$0")" && pwd)
-program=$(realpath "${1:-$here/../crates/dshark_cli/out/dshark_cli}")
-[ -x "$program" ] || { echo "bench/run.sh: $program is not built: make demo builds it" >&2; exit 1; }
-command -v gcc >/dev/null && [ -x /usr/bin/time ] || { echo 'bench/run.sh: needs gcc and /usr/bin/time' >&2; exit 1; }
-room=$(mktemp -d)
-trap 'rm -rf "$room"' EXIT
+. "$here/table.sh"
 gcc -O2 -o "$room/make_capture" "$here/make_capture.c"
-
-names=() commands=()
-row() { # NAME TOOL COMMAND..
-    local name=$1 tool=$2
-    shift 2
-    if command -v "$tool" >/dev/null; then
-        names+=("$name")
-        commands+=("$*")
-    else
-        echo "$name: skipped: $tool is not installed"
-    fi
-}
-
-# Times all rows: the least cpu seconds, elapsed seconds and greatest kilobytes of each.
-table() { # RECORDS
-    local bytes round i words
-    bytes=$(stat -c %s "$room/all.pcap")
-    cat "$room/all.pcap" >/dev/null
-    : >"$room/rows"
-    for ((round = 0; round < rounds; round++)); do
-        for i in "${!names[@]}"; do
-            read -ra words <<<"${commands[$i]}"
-            /usr/bin/time -o "$room/time" -f '%U %S %e %M' "${words[@]}" >"$room/out" 2>"$room/err"
-            echo "$i $(tail -1 "$room/time")" >>"$room/rows"
-            [ "$i" -ne 0 ] || tail -2 "$room/out" >"$room/report"
-        done
-    done
-    echo "records=$1 file=$bytes bytes rounds=$rounds"
-    cat "$room/report"
-    sort -n "$room/rows" | awk -v records="$1" -v few="$few" -v bytes="$bytes" -v all="$(printf '%s\t' "${names[@]}")" '
-        { cpu = $2 + $3
-          if (!($1 in least) || cpu < least[$1]) { least[$1] = cpu; user[$1] = $2; system_[$1] = $3 }
-          if (!($1 in wall) || $4 < wall[$1]) wall[$1] = $4
-          if ($5 > peak[$1]) peak[$1] = $5 }
-        END {
-          n = split(all, name, "\t") - 1
-          printf "%-18s %10s %8s %8s %8s %8s %10s %12s", "row", "records", "user s", "sys s", "wall s", "MB/s", "peak MB", "ns a record"
-          for (own = 0; own < n && name[own + 1] ~ /^dshark/; own++) printf "  cpu to %s", name[own + 1]
-          printf "\n"
-          for (i = 0; i < n; i++) {
-            of = name[i + 1] ~ /^tshark/ ? few : records
-            each = least[i] / of
-            printf "%-18s %10d %8.2f %8.2f %8.2f %8.0f %10.1f %12.0f", name[i + 1], of, user[i], system_[i], wall[i], (each > 0 ? bytes / records / each / 1e6 : 0), peak[i] / 1024, 1e9 * each
-            for (k = 0; k < own; k++) printf "  %*.2f", 7 + length(name[k + 1]), (least[k] > 0 ? each * records / least[k] : 0)
-            printf "\n"
-          }
-          printf "memory of dshark beside the size of the file: %.2f; bytes a record: %.0f\n", peak[0] * 1024 / bytes, peak[0] * 1024 / records
-        }'
-}
 
 "$room/make_capture" "$room/all.pcap" "$packets" 22 "$copies"
 "$room/make_capture" "$room/few.pcap" "$few"
@@ -82,7 +29,7 @@ row 'dshark count' "$program" "$program" count 'ipv4[0].id' 1000000 "$room/all.p
 row 'cat (reads only)' cat cat "$room/all.pcap"
 row 'capinfos -c' capinfos capinfos -c "$room/all.pcap"
 row 'tshark ip.id' tshark tshark -r "$room/few.pcap" -T fields -e ip.id
-table $((packets * copies))
+table $((packets * copies)) "$few" "$(stat -c %s "$room/all.pcap")" 2
 
 [ "$tunnelled" -ne 0 ] || exit 0
 "$room/make_capture" "$room/all.pcap" "$tunnelled" 22 1 tunnels
@@ -94,4 +41,4 @@ row 'cat (reads only)' cat cat "$room/all.pcap"
 row 'tshark protocols' tshark tshark -r "$room/few.pcap" -T fields -e frame.protocols
 row 'tshark ip.id' tshark tshark -r "$room/few.pcap" -T fields -E occurrence=l -e ip.id
 echo
-table "$tunnelled"
+table "$tunnelled" "$few" "$(stat -c %s "$room/all.pcap")" 2
