@@ -85,7 +85,7 @@ fn answer_over(
         HasTaken job.now.names.captures.items (declared_of job.now) groups.old written.old front before →
         HasTaken job.now.names.captures.items (declared_of job.now) groups.new written.new front time) }
 {
-    while let Some(group) = groups.next_over(time) {
+    while let Some(group) = groups.next_closed(time) {
         written.answer(job, &group)?;
     }
     Ok(())

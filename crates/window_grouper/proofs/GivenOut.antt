@@ -147,7 +147,7 @@ ordered_held (g ∷ given) held h = ordered_held given held (tail g.members (mem
   tail [] ms h = h
   tail (s ∷ ss) ms h = h.1
 
--- once `next_over` has answered None, no group that is held is over
+-- once `next_closed` has answered None, no group that is held is over
 pub all_open : (window time : ℕ) (front : List Summary) (given held : List Copies) → InStampOrder front
     → groups_of window front ≡ given ++ held → FirstIsOpen window time held → AllByRecursion (IsOpen window time) held
 all_open window time front given [] ordered e first = tt

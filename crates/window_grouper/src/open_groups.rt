@@ -77,7 +77,7 @@ impl OpenGroups {
     /// The first group that has begun, where its window is over at `time`: its first's time plus the
     /// window is below it. None exactly where no group is held or the first's window is not over. It
     /// takes no memory.
-    pub fn next_over(&mut self, time: u64) -> Option<Group>
+    pub fn next_closed(&mut self, time: u64) -> Option<Group>
         ensures window { self.new.window ≡ self.old.window }
         ensures first { IfSome result (λ group. self.old.held ≡ copies_of group ∷ self.new.held) }
         ensures over { IfSome result (λ _. FirstIsOver self.old.window time self.old.held) }

@@ -75,7 +75,7 @@ fn one_by_one(alloc: Global, window: u64, list: &SummaryList) -> Result<GroupLis
     let mut held = OpenGroups::new(alloc, window);
     for i in 0..list.len() {
         let summary = list.get(i);
-        while let Some(group) = held.next_over(summary.at.time) {
+        while let Some(group) = held.next_closed(summary.at.time) {
             put(&mut given, group)?;
         }
         held.place(summary)?;
@@ -175,16 +175,16 @@ fn lists_by_hand_give_their_groups(rt: HostRuntime) -> Result<(), Fail> {
 fn a_group_is_given_out_once_its_window_is_over(rt: HostRuntime) -> Result<(), Fail> {
     let alloc = rt.alloc();
     let mut held = OpenGroups::new(alloc, 10);
-    assert!(rt; held.next_over(u64::MAX).is_none());
+    assert!(rt; held.next_closed(u64::MAX).is_none());
     held.place(&summary(&(5, 0, &[7]), 0))?;
     held.place(&summary(&(9, 0, &[8]), 1))?;
-    assert!(rt; held.next_over(15).is_none());
-    assert!(rt; held.next_over(16).is_some());
-    assert!(rt; held.next_over(16).is_none());
+    assert!(rt; held.next_closed(15).is_none());
+    assert!(rt; held.next_closed(16).is_some());
+    assert!(rt; held.next_closed(16).is_none());
     held.place(&summary(&(16, 0, &[7]), 2))?;
-    assert!(rt; held.next_over(19).is_none());
-    assert!(rt; held.next_over(20).is_some());
-    assert!(rt; held.next_over(20).is_none());
+    assert!(rt; held.next_closed(19).is_none());
+    assert!(rt; held.next_closed(20).is_some());
+    assert!(rt; held.next_closed(20).is_none());
     assert!(rt; held.next().is_some());
     assert!(rt; held.next().is_none());
     Ok(())

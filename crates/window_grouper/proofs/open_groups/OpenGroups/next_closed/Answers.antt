@@ -3,7 +3,7 @@ use Rattle.std.proofs.lemmas.Option.{IfSome_then}
 use Rattle.ds_base.specs.Copies.{Copies, copies_of}
 use Rattle.window_grouper.specs.Over.{FirstIsOver}
 use Rattle.window_grouper.proofs.GivenOut.{placed_given, placed_later}
-use Rattle.window_grouper.proofs.open_groups.OpenGroups.next_over.Goals as goal
+use Rattle.window_grouper.proofs.open_groups.OpenGroups.next_closed.Goals as goal
 
 pub returns-then-is_first_over-clause-gives : goal.returns-then-is_first_over-clause-gives
 returns-then-is_first_over-clause-gives c window front given before h later =
