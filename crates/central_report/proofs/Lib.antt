@@ -1,5 +1,4 @@
 pub mod Numbered
-pub mod Fewness
 pub mod Accepted
 pub mod Gathered
 pub mod Delaying

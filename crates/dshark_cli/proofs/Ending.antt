@@ -8,7 +8,7 @@ use Rattle.ds_base.specs.Outside.{FolderSeen, SinkSeen, file_named}
 use Rattle.ds_base.specs.declared.capture.PcapFault.{PcapFault}
 use Rattle.job_values.specs.declared.fault.JobFault.{JobFault}
 use Rattle.pcap_reader.specs.Format.{bad_at}
-use Rattle.pcap_reader.specs.Good.{good_bad}
+use Rattle.pcap_reader.specs.Good.{good}
 use Rattle.summary_spec.specs.Reads.{reads}
 use Rattle.dshark_cli.specs.declared.fault.RunFault.{RunFault}
 use Rattle.dshark_cli.specs.declared.fault.RunFault.TheVariants.{Usage, BadJob, Malformed, ReadFault, WriteFault, OutOfMemory}
@@ -156,7 +156,7 @@ at_number P (n ∷ names) (suc i) name all at = at_number P names i name all.1 a
 -- a capture that is not malformed has no malformed place
 sound_capture : (folder : FolderSeen) (name : List ℕ) (at : ℕ) (what : PcapFault) → HasSound folder name → IsMalformed folder name at what → ⊥
 sound_capture folder name at what sound bad =
-    let both : Some (bad_at at what) ≡ None = sym bad.2 ∙ ap good_bad (same_bytes bad.0 sound.0 (file_named folder.files name) bad.1 sound.1) ∙ sound.2 in
+    let both : Some (bad_at at what) ≡ None = sym bad.2 ∙ ap (λ bytes. (good bytes).bad) (same_bytes bad.0 sound.0 (file_named folder.files name) bad.1 sound.1) ∙ sound.2 in
     cc
 
 -- a job that is accepted is not refused

@@ -6,7 +6,7 @@ use Rattle.ds_base.specs.Gain.{GainsPrefix}
 use Rattle.ds_base.specs.declared.capture.Bad.{Bad}
 use Rattle.ds_base.specs.Outside.{SourceSeen, SinkSeen, SinkStays}
 use Rattle.pcap_reader.specs.Captured.{Captured}
-use Rattle.pcap_reader.specs.Good.{good_records, good_bad, good_cut}
+use Rattle.pcap_reader.specs.Good.{good}
 use Rattle.pcap_reader.specs.Reader.{Reader, StandsFor}
 use Rattle.dshark_cli.specs.declared.fault.RunFault.{RunFault}
 use Rattle.dshark_cli.specs.declared.fault.RunFault.TheVariants.{Usage, BadJob, Malformed, ReadFault, WriteFault, OutOfMemory}
@@ -53,10 +53,10 @@ stops_reading reader printer first last old before now fed left given faults tol
 stops_reading reader printer first last old before now fed left given faults told quiet whole stands printed (Malformed capture at what) h = (
   faults,
   h.0,
-  (λ tells. ap good_bad (whole tells) ∙ h.1 fed given stands left),
+  (λ tells. ap (λ bytes. (good bytes).bad) (whole tells) ∙ h.1 fed given stands left),
   (λ tells out.
       let telling : IsTrue before.told = rw told out in
-      h.2 fed given old.written stands printed telling left ∙ ap (λ bytes. old.written ++ lines_by printer.asking (good_records bytes)) (sym (whole tells))),
+      h.2 fed given old.written stands printed telling left ∙ ap (λ bytes. old.written ++ lines_by printer.asking (good bytes).records) (sym (whole tells))),
 )
 stops_reading reader printer first last old before now fed left given faults told quiet whole stands printed (ReadFault file) h = absurd h
 stops_reading reader printer first last old before now fed left given faults told quiet whole stands printed WriteFault h = rw (← quiet) h
@@ -74,10 +74,10 @@ stops_writing asking first last old before now quiet OutOfMemory h = tt
 
 -- the same is asked, and the same bytes are read
 pub begun_the_same : (a b : Asking) (start written fed whole : List ℕ) → a ≡ b → whole ≡ fed
-    → GainsPrefix start written (lines_by a (good_records fed)) → GainsPrefix start written (lines_by b (good_records whole))
+    → GainsPrefix start written (lines_by a (good fed).records) → GainsPrefix start written (lines_by b (good whole).records)
 begun_the_same a b start written fed whole same is begun =
-    let P : Asking → Type 0 = λ asking. GainsPrefix start written (lines_by asking (good_records fed)) in
-    let Q : List ℕ → Type 0 = λ bytes. GainsPrefix start written (lines_by b (good_records bytes)) in
+    let P : Asking → Type 0 = λ asking. GainsPrefix start written (lines_by asking (good fed).records) in
+    let Q : List ℕ → Type 0 = λ bytes. GainsPrefix start written (lines_by b (good bytes).records) in
     subst Q (sym is) (subst P same begun)
 
 pub printed_the_same : (a b : Asking) (start waiting : List ℕ) (out : SinkSeen) (rs : List Captured) → a ≡ b
@@ -87,17 +87,17 @@ printed_the_same a b start waiting out rs same printed =
     subst P same printed
 
 -- a front of the lines is one of the report
-pub begun_report : (asking : Asking) (start written bytes : List ℕ) → GainsPrefix start written (lines_by asking (good_records bytes))
+pub begun_report : (asking : Asking) (start written bytes : List ℕ) → GainsPrefix start written (lines_by asking (good bytes).records)
     → GainsPrefix start written (report_by asking bytes)
 begun_report asking start written bytes begun =
-    gains_longer start written (lines_by asking (good_records bytes)) (last_line_of (good_bad bytes) (good_cut bytes)) begun
+    gains_longer start written (lines_by asking (good bytes).records) (last_line_of (good bytes).bad (good bytes).cut) begun
 
 -- the lines and the last one are the report of a file that is not malformed
-pub whole_report : (asking : Asking) (bytes : List ℕ) (cut : Bool) → good_bad bytes ≡ None → cut ≡ good_cut bytes
-    → lines_by asking (good_records bytes) ++ last_line cut ≡ report_by asking bytes
+pub whole_report : (asking : Asking) (bytes : List ℕ) (cut : Bool) → (good bytes).bad ≡ None → cut ≡ (good bytes).cut
+    → lines_by asking (good bytes).records ++ last_line cut ≡ report_by asking bytes
 whole_report asking bytes cut sound is =
-    ap (λ (c : Bool). lines_by asking (good_records bytes) ++ last_line c) is
-    ∙ ap (λ (o : Option Bad). lines_by asking (good_records bytes) ++ last_line_of o (good_cut bytes)) (sym sound)
+    ap (λ (c : Bool). lines_by asking (good bytes).records ++ last_line c) is
+    ∙ ap (λ (o : Option Bad). lines_by asking (good bytes).records ++ last_line_of o (good bytes).cut) (sym sound)
 
 -- how the reading of a capture ends with its last write
 pub ends_by_last : (asking : Asking) (first last : SourceSeen) (old before now : SinkSeen) (W : Type 0) (result : Result (Unit {0}) RunFault)

@@ -6,7 +6,7 @@ use Rattle.ds_base.specs.Faults.{Rose}
 use Rattle.ds_base.specs.Outside.{SourceSeen, SinkSeen, FolderSeen, file_named}
 use Rattle.ds_base.specs.declared.capture.Bad.{Bad}
 use Rattle.pcap_reader.specs.Format.{bad_at}
-use Rattle.pcap_reader.specs.Good.{good_records, good_bad, good_cut}
+use Rattle.pcap_reader.specs.Good.{good}
 use Rattle.dshark_cli.specs.declared.fault.RunFault.{RunFault}
 use Rattle.dshark_cli.specs.declared.fault.RunFault.TheVariants.{Usage, BadJob, Malformed, ReadFault, WriteFault, OutOfMemory}
 use Rattle.dshark_cli.specs.declared.stack_lines.Asking.{Asking}
@@ -36,11 +36,11 @@ rose_above n (inl less) e = omega (arith, less, e)
 rose_above n (inr end) e = absurd (omega (arith, end.0))
 
 -- what is due of a malformed file are its lines
-due_of_bad : (asking : Asking) (bytes : List ℕ) (bad : Bad) → good_bad bytes ≡ Some bad
-    → lines_by asking (good_records bytes) ≡ report_by asking bytes
+due_of_bad : (asking : Asking) (bytes : List ℕ) (bad : Bad) → (good bytes).bad ≡ Some bad
+    → lines_by asking (good bytes).records ≡ report_by asking bytes
 due_of_bad asking bytes bad is =
-    sym (append-nil (lines_by asking (good_records bytes)))
-    ∙ ap (λ (o : Option Bad). lines_by asking (good_records bytes) ++ last_line_of o (good_cut bytes)) (sym is)
+    sym (append-nil (lines_by asking (good bytes).records))
+    ∙ ap (λ (o : Option Bad). lines_by asking (good bytes).records ++ last_line_of o (good bytes).cut) (sym is)
 
 -- the only capture is the first malformed one
 pub first_of_one : (folder : FolderSeen) (name : List ℕ) (capture at : ℕ) (what : PcapFault) → capture ≡ 0 → IsMalformed folder name at what

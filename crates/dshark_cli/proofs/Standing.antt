@@ -1,7 +1,7 @@
 use Rattle.std.proofs.Common.{ℕ, List, [], ◌∷◌, ◌++◌, ◌≡◌, Option, Some, None, length, refl, sym, ap, ◌∙◌, arith}
 use Rattle.pcap_reader.specs.declared.format.Format.{Format}
 use Rattle.pcap_reader.specs.Captured.{Captured}
-use Rattle.pcap_reader.specs.Good.{good_records}
+use Rattle.pcap_reader.specs.Good.{good}
 use Rattle.pcap_reader.specs.Lent.{AreFirst}
 use Rattle.pcap_reader.specs.Reader.{Reader, StandsFor, IsAt}
 
@@ -15,8 +15,8 @@ with_later whole given later e = (later, e)
 first_at : (format : Option Format) (reader : Reader) (fed : List ℕ) (given : List Captured) → length given ≡ reader.count
     → IsAt format reader fed given → AreFirst fed given
 first_at None reader fed given few at more =
-    with_later (good_records (fed ++ more)) given (good_records (fed ++ more))
-    (ap (λ xs. xs ++ good_records (fed ++ more)) (sym (none_of given (few ∙ at.count))))
+    with_later (good (fed ++ more)).records given (good (fed ++ more)).records
+    (ap (λ xs. xs ++ (good (fed ++ more)).records) (sym (none_of given (few ∙ at.count))))
 first_at (Some format) reader fed given few at more = with_later _ given _ (at.records more)
 
 -- the records that a reader gave are the first of the file, whatever bytes follow

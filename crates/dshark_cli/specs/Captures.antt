@@ -8,7 +8,7 @@ use Rattle.ds_base.specs.declared.capture.Counts.{Counts}
 use Rattle.ds_base.specs.declared.capture.PcapFault.{PcapFault}
 use Rattle.ds_base.specs.declared.summary.Summary.{Summary}
 use Rattle.central_report.specs.Report.{accepted_from, counts_from, report}
-use Rattle.pcap_reader.specs.Good.{good_bad}
+use Rattle.pcap_reader.specs.Good.{good}
 use Rattle.summary_spec.specs.Declaration.{Declared}
 use Rattle.dshark_cli.specs.declared.fault.RunFault.{RunFault}
 use Rattle.dshark_cli.specs.declared.fault.RunFault.TheVariants.{Usage, BadJob, Malformed, ReadFault, WriteFault, OutOfMemory}
@@ -23,7 +23,7 @@ AreFiles folder (name ∷ names) (bytes ∷ files) = (file_named folder.files na
 
 -- no capture is malformed
 abbrev pub AreSound : List (List ℕ) → Type 0
-AreSound files = AllByRecursion (λ bytes. good_bad bytes ≡ None) files
+AreSound files = AllByRecursion (λ bytes. (good bytes).bad ≡ None) files
 
 -- the captures before this one are there and not malformed
 abbrev pub AreSoundBefore : FolderSeen → (names : List (List ℕ)) → (capture : ℕ) → Type 0

@@ -4,7 +4,7 @@ use Rattle.ds_base.specs.Faults.{Rose}
 use Rattle.ds_base.specs.Outside.{FolderSeen, SourceSeen, IsFresh, file_named}
 use Rattle.ds_base.specs.declared.capture.PcapFault.{PcapFault}
 use Rattle.pcap_reader.specs.Format.{bad_at}
-use Rattle.pcap_reader.specs.Good.{good_bad}
+use Rattle.pcap_reader.specs.Good.{good}
 
 -- the folder has the file of that name
 abbrev pub HasFile : FolderSeen → List ℕ → Type 0
@@ -12,11 +12,11 @@ HasFile folder name = IsSome (file_named folder.files name)
 
 -- the folder has the file of that name, and as a capture it is not malformed
 abbrev pub HasSound : FolderSeen → List ℕ → Type 0
-HasSound folder name = (bytes : List ℕ) × (file_named folder.files name ≡ Some bytes) × (good_bad bytes ≡ None)
+HasSound folder name = (bytes : List ℕ) × (file_named folder.files name ≡ Some bytes) × ((good bytes).bad ≡ None)
 
 -- the file of that name has its first malformed place there
 abbrev pub IsMalformed : FolderSeen → List ℕ → ℕ → PcapFault → Type 0
-IsMalformed folder name at what = (bytes : List ℕ) × (file_named folder.files name ≡ Some bytes) × (good_bad bytes ≡ Some (bad_at at what))
+IsMalformed folder name at what = (bytes : List ℕ) × (file_named folder.files name ≡ Some bytes) × ((good bytes).bad ≡ Some (bad_at at what))
 
 -- a read failed, or the folder lacks the file
 abbrev pub IsUnread : FolderSeen → FolderSeen → List ℕ → Type 0

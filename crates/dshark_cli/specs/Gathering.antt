@@ -7,7 +7,7 @@ use Rattle.key_select.specs.Fates.{accepted_of}
 use Rattle.key_select.specs.Tally.{Tallies, capture_of, records_taken}
 use Rattle.pcap_reader.specs.Captured.{Captured}
 use Rattle.pcap_reader.specs.Format.{is_short_header, bad_at}
-use Rattle.pcap_reader.specs.Good.{good_records, good_bad}
+use Rattle.pcap_reader.specs.Good.{good}
 use Rattle.pcap_reader.specs.Reader.{Reader, StandsFor, IsWaiting, bytes_fed, records_given}
 use Rattle.summary_spec.specs.Declaration.{Declared}
 use Rattle.dshark_cli.specs.declared.fault.RunFault.{RunFault}
@@ -21,9 +21,9 @@ pub record Collects (job : Declared) (capture : ℕ) (tally : Tally) (start list
 
 -- the reader has given all records of the bytes fed, and they were taken up
 pub record HasTaken (job : Declared) (capture : ℕ) (reader : Reader) (tally : Tally) (start list : List Summary) (fed : List ℕ) : Type 0 where
-  pub stands : StandsFor reader fed (good_records fed)
-  pub collects : Collects job capture tally start list (good_records fed)
-  pub sound : MatchOption (good_bad fed) (Unit {0}) (λ b. is_short_header b.what ≡ true)
+  pub stands : StandsFor reader fed (good fed).records
+  pub collects : Collects job capture tally start list (good fed).records
+  pub sound : MatchOption (good fed).bad (Unit {0}) (λ b. is_short_header b.what ≡ true)
 
 -- To what was taken up before, all further records that were fed were added.
 pub record IsDrained (job : Declared) (old new : Reader) (before after : Tally) (list longer : List Summary) : Type 0 where
@@ -38,7 +38,7 @@ pub record IsDrained (job : Declared) (old new : Reader) (before after : Tally) 
 -- This is the first malformed place, whatever bytes may follow those that were fed.
 abbrev pub IsFirstBad : Reader → ℕ → PcapFault → Type 0
 IsFirstBad reader at what = (fed : List ℕ) (given : List Captured) → StandsFor reader fed given
-    → (more : List ℕ) → good_bad (fed ++ more) ≡ Some (bad_at at what)
+    → (more : List ℕ) → (good (fed ++ more)).bad ≡ Some (bad_at at what)
 
 -- why the records of this capture that were fed were not all taken up
 abbrev pub StopsDrain : (capture : ℕ) → Reader → RunFault → Type 0

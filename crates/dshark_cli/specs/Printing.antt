@@ -5,7 +5,7 @@ use Rattle.ds_base.specs.Gain.{Gains, GainsPrefix}
 use Rattle.ds_base.specs.Outside.{SourceSeen, SinkSeen}
 use Rattle.pcap_reader.specs.Captured.{Captured}
 use Rattle.pcap_reader.specs.Format.{bad_at}
-use Rattle.pcap_reader.specs.Good.{good_records, good_bad}
+use Rattle.pcap_reader.specs.Good.{good}
 use Rattle.pcap_reader.specs.Reader.{Reader, StandsFor, IsWaiting, bytes_fed}
 use Rattle.dshark_cli.specs.declared.fault.RunFault.{RunFault}
 use Rattle.dshark_cli.specs.declared.fault.RunFault.TheVariants.{Usage, BadJob, Malformed, ReadFault, WriteFault, OutOfMemory}
@@ -54,9 +54,9 @@ StopsPrint before after OutOfMemory = Unit {0}
 pub record IsDrainedTo (old new : Reader) (printer after : Printer) (before now : SinkSeen) : Type 0 where
   pub asking : after.asking ≡ printer.asking
   pub faults : now.faults ≡ before.faults
-  pub stands : (fed : List ℕ) (given : List Captured) → StandsFor old fed given → StandsFor new fed (good_records fed)
+  pub stands : (fed : List ℕ) (given : List Captured) → StandsFor old fed given → StandsFor new fed (good fed).records
   pub text : (fed : List ℕ) (given : List Captured) (start : List ℕ) → StandsFor old fed given
-      → HasPrinted start before printer.text.items (lines_by printer.asking given) → HasPrinted start now after.text.items (lines_by printer.asking (good_records fed))
+      → HasPrinted start before printer.text.items (lines_by printer.asking given) → HasPrinted start now after.text.items (lines_by printer.asking (good fed).records)
   pub waiting : IsWaiting new
   pub fed : bytes_fed new ≡ bytes_fed old
   pub bounded : bytes_fed new < 2 ^ 61
@@ -65,7 +65,7 @@ pub record IsDrainedTo (old new : Reader) (printer after : Printer) (before now 
 abbrev pub WritesFirst : Reader → Printer → SinkSeen → SinkSeen → Type 0
 WritesFirst reader printer before now = (fed : List ℕ) (given : List Captured) (start : List ℕ) → StandsFor reader fed given
     → HasPrinted start before printer.text.items (lines_by printer.asking given) → IsTrue before.told
-    → (more : List ℕ) → now.written ≡ start ++ lines_by printer.asking (good_records (fed ++ more))
+    → (more : List ℕ) → now.written ≡ start ++ lines_by printer.asking (good (fed ++ more)).records
 
 -- Why they were not all printed: the first malformed place, a failed write, or no memory.
 abbrev pub StopsDrainTo : Reader → Printer → SinkSeen → SinkSeen → RunFault → Type 0
@@ -84,8 +84,8 @@ pub record IsReadTo (asking : Asking) (before after : SourceSeen) (reader : Read
   pub quiet : new.faults ≡ old.faults
   pub waiting : IsWaiting reader
   pub given : List ℕ
-  pub stands : StandsFor reader given (good_records given)
-  pub text : HasPrinted old.written new printer.text.items (lines_by asking (good_records given))
+  pub stands : StandsFor reader given (good given).records
+  pub text : HasPrinted old.written new printer.text.items (lines_by asking (good given).records)
   pub whole : IsTrue before.told → before.whole ≡ given
 
 -- Why it was not: the first malformed place, before which all lines were written, a failed read, a failed
@@ -94,8 +94,8 @@ abbrev pub StopsReadTo : Asking → SourceSeen → SourceSeen → SinkSeen → S
 StopsReadTo asking before after old new (Usage place) = ⊥
 StopsReadTo asking before after old new (BadJob fault) = ⊥
 StopsReadTo asking before after old new (Malformed capture at what) = (after.faults ≡ before.faults) × (capture ≡ 0)
-    × (IsTrue before.told → good_bad before.whole ≡ Some (bad_at at what))
-    × (IsTrue before.told → IsTrue old.told → new.written ≡ old.written ++ lines_by asking (good_records before.whole))
+    × (IsTrue before.told → (good before.whole).bad ≡ Some (bad_at at what))
+    × (IsTrue before.told → IsTrue old.told → new.written ≡ old.written ++ lines_by asking (good before.whole).records)
 StopsReadTo asking before after old new (ReadFault file) = (file ≡ 0) × Rose before.faults after.faults
 StopsReadTo asking before after old new WriteFault = Rose old.faults new.faults
 StopsReadTo asking before after old new OutOfMemory = Unit {0}
@@ -106,6 +106,6 @@ pub record PrintsWhole (asking : Asking) (before after : SourceSeen) (old new : 
   pub faults : after.faults ≡ before.faults
   pub quiet : new.faults ≡ old.faults
   pub given : List ℕ
-  pub sound : good_bad given ≡ None
+  pub sound : (good given).bad ≡ None
   pub written : IsTrue old.told → new.written ≡ old.written ++ report_by asking given
   pub whole : IsTrue before.told → before.whole ≡ given

@@ -7,7 +7,7 @@ use Rattle.ds_base.specs.declared.summary.Summary.{Summary}
 use Rattle.key_select.specs.declared.tally.Tally.{Tally}
 use Rattle.key_select.specs.Fates.{accepted_of, counts_of}
 use Rattle.pcap_reader.specs.Format.{bad_at}
-use Rattle.pcap_reader.specs.Good.{good_records, good_bad, good_cut}
+use Rattle.pcap_reader.specs.Good.{good}
 use Rattle.pcap_reader.specs.Reader.{Reader, IsWaiting}
 use Rattle.summary_spec.specs.Declaration.{Declared}
 use Rattle.dshark_cli.specs.declared.fault.RunFault.{RunFault}
@@ -29,7 +29,7 @@ abbrev pub StopsRead : (capture : ℕ) → SourceSeen → (before after : ℕ) �
 StopsRead capture source before after (Usage place) = ⊥
 StopsRead capture source before after (BadJob fault) = ⊥
 StopsRead capture source before after (Malformed c at what) =
-    (after ≡ before) × (c ≡ capture) × (IsTrue source.told → good_bad source.whole ≡ Some (bad_at at what))
+    (after ≡ before) × (c ≡ capture) × (IsTrue source.told → (good source.whole).bad ≡ Some (bad_at at what))
 StopsRead capture source before after (ReadFault file) = (file ≡ capture + 1) × Rose before after
 StopsRead capture source before after WriteFault = ⊥
 StopsRead capture source before after OutOfMemory = after ≡ before
@@ -37,9 +37,9 @@ StopsRead capture source before after OutOfMemory = after ≡ before
 -- What was gathered of a whole capture file that is not malformed: behind `start` the list has the accepted
 -- summaries, and the counts say how the records fared.
 pub record IsGathered (job : Declared) (capture : ℕ) (start list : List Summary) (fared : Counts) (bytes : List ℕ) : Type 0 where
-  pub sound : good_bad bytes ≡ None
-  pub accepted : list ≡ start ++ accepted_of job capture (good_records bytes)
-  pub counts : fared ≡ counts_of job capture (good_records bytes) (good_cut bytes)
+  pub sound : (good bytes).bad ≡ None
+  pub accepted : list ≡ start ++ accepted_of job capture (good bytes).records
+  pub counts : fared ≡ counts_of job capture (good bytes).records (good bytes).cut
 
 -- What was gathered is that of what the source gave, and where it tells, that is the whole file. Before and
 -- after are the failures of the source, or those of the folder that takes it back.

@@ -13,7 +13,7 @@ use Rattle.header_stack.specs.Places.{places_from}
 use Rattle.header_stack.specs.Stack.{stack_of}
 use Rattle.header_stack.specs.Value.{packet_value}
 use Rattle.pcap_reader.specs.Captured.{Captured}
-use Rattle.pcap_reader.specs.Good.{good_records, good_bad, good_cut}
+use Rattle.pcap_reader.specs.Good.{good}
 
 -- a header: its kind, its first byte and the first byte behind it
 abbrev pub header_text : Place → List ℕ
@@ -57,4 +57,4 @@ last_line_of (Some bad) cut = []
 -- The lines of a capture file: those of the records before its first malformed place, and where it has
 -- none, the last line.
 abbrev pub stack_report : (port : ℕ) → Option FieldRef → List ℕ → List ℕ
-stack_report port field bytes = stack_lines port field (good_records bytes) ++ last_line_of (good_bad bytes) (good_cut bytes)
+stack_report port field bytes = stack_lines port field (good bytes).records ++ last_line_of (good bytes).bad (good bytes).cut

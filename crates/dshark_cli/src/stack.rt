@@ -3,7 +3,7 @@ ghost use Rattle.command_words.specs.Words.Asked.{AskedStack};
 ghost use Rattle.ds_base.specs.Gain.{GainsPrefix};
 ghost use Rattle.ds_base.specs.Outside.{IsFresh, FolderStays, SourceStays, SinkStays};
 ghost use Rattle.pcap_reader.specs.Captured.{Captured};
-ghost use Rattle.pcap_reader.specs.Good.{good_records};
+ghost use Rattle.pcap_reader.specs.Good.{good};
 ghost use Rattle.pcap_reader.specs.Reader.{StandsFor, bytes_fed};
 ghost use Rattle.dshark_cli.specs.Printing.{lines_by, report_by, HasPrinted, HasBegun, IsDrainedTo, StopsDrainTo, IsReadTo, StopsReadTo, PrintsWhole};
 ghost use Rattle.dshark_cli.specs.Run.{due, EndsOk, EndsBy};
@@ -54,7 +54,7 @@ fn drain<O: Sink>(
     ensures stays { SinkStays (O.seen out.old) (O.seen out.new) }
     ensures prefix { (fed : List ℕ) (given : List Captured) (start : List ℕ) → StandsFor reader.old fed given →
         HasPrinted start (O.seen out.old) printer.old.text.items (lines_by printer.old.asking given) →
-        (more : List ℕ) → HasBegun start (O.seen out.new) (lines_by printer.old.asking (good_records (fed ++ more))) }
+        (more : List ℕ) → HasBegun start (O.seen out.new) (lines_by printer.old.asking (good (fed ++ more)).records) }
     ensures ends { MatchResult result
         (λ _. IsDrainedTo reader.old reader.new printer.old printer.new (O.seen out.old) (O.seen out.new))
         (StopsDrainTo reader.old printer.old (O.seen out.old) (O.seen out.new)) }
@@ -93,7 +93,7 @@ fn print_records<S: Source, O: Sink>(
     ensures stays { SourceStays (S.seen source.old) (S.seen source.new) }
     ensures out_stays { SinkStays (O.seen out.old) (O.seen out.new) }
     ensures prefix { IsTrue (S.seen source.old).told →
-        HasBegun (O.seen out.old).written (O.seen out.new) (lines_by printer.old.asking (good_records (S.seen source.old).whole)) }
+        HasBegun (O.seen out.old).written (O.seen out.new) (lines_by printer.old.asking (good (S.seen source.old).whole).records) }
     ensures ends { MatchResult result
         (λ _. IsReadTo printer.old.asking (S.seen source.old) (S.seen source.new) reader.new printer.new (O.seen out.old) (O.seen out.new))
         (StopsReadTo printer.old.asking (S.seen source.old) (S.seen source.new) (O.seen out.old) (O.seen out.new)) }

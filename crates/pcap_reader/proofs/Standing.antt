@@ -8,7 +8,7 @@ use Rattle.pcap_reader.specs.Captured.{Captured}
 use Rattle.pcap_reader.specs.Format.{header_of, is_short_header, short_header}
 use Rattle.pcap_reader.specs.Records.{most_records, record_length, begins_record, first_record, whole_records, behind_records, record_fault, IsLast}
 use Rattle.pcap_reader.specs.Good.{file_format, good_records, good_rest, good_bad, good_cut, records_under, rest_under, bad_under}
-use Rattle.pcap_reader.specs.Reader.{Reader, IsUnopened, IsOpened, IsAt, StandsFor, WaitsAt, IsWaiting, bytes_fed, bytes_held, records_given}
+use Rattle.pcap_reader.specs.Reader.{Reader, IsUnopened, IsOpened, IsAt, StandsFor, WaitsAt, IsWaiting, bytes_fed, bytes_held}
 use Rattle.pcap_reader.specs.Lent.{GivesNext, GivesNone, GivesBad, IsNowOpen}
 use Rattle.pcap_reader.proofs.Runs.{whole_more, behind_more, whole_end, behind_end}
 use Rattle.pcap_reader.proofs.Fronts.{shown_number, Fits, begins_fits, last_append, fault_append, header_append}

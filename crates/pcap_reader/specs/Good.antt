@@ -40,10 +40,13 @@ good_bad bytes = bad_under (file_format bytes) bytes
 unfoldable pub good_cut : List ℕ → Bool
 good_cut bytes = is_none (good_bad bytes) && nat_lt 0 (length (good_rest bytes))
 
+-- what a file holds
 pub record Good : Type 0 where
   pub records : List Captured
   pub bad : Option Bad
   pub cut : Bool
 
+-- What these bytes hold as a file. All that stands above this file speaks of `good` alone, and of none of
+-- the parts before it.
 abbrev pub good : List ℕ → Good
 good bytes = record { records = good_records bytes; bad = good_bad bytes; cut = good_cut bytes }

@@ -7,7 +7,7 @@ use Rattle.pcap_reader.specs.declared.record.Found.{Found}
 use Rattle.pcap_reader.specs.Captured.{Captured}
 use Rattle.pcap_reader.specs.Format.{header_of, is_link, is_short_header}
 use Rattle.pcap_reader.specs.Records.{most_records, shown}
-use Rattle.pcap_reader.specs.Good.{file_format, good_records, good_bad}
+use Rattle.pcap_reader.specs.Good.{good}
 use Rattle.pcap_reader.specs.Reader.{Reader, StandsFor, WaitsAt, IsWaiting, bytes_fed, records_given, bytes_left, bytes_held}
 
 -- a record that is lent, without where it lies in memory
@@ -23,7 +23,7 @@ pub record IsLawful (r : Captured) : Type 0 where
 
 -- These are the first records of the file, whatever bytes follow.
 abbrev pub AreFirst : List ℕ → List Captured → Type 0
-AreFirst fed given = (more : List ℕ) → (later : List Captured) × (good_records (fed ++ more) ≡ given ++ later)
+AreFirst fed given = (more : List ℕ) → (later : List Captured) × ((good (fed ++ more)).records ≡ given ++ later)
 
 -- The record is the next one: it is given now.
 pub record GivesNext (old : Reader) (r : Captured) (new : Reader) : Type 0 where
@@ -37,10 +37,10 @@ pub record GivesNext (old : Reader) (r : Captured) (new : Reader) : Type 0 where
 -- All records were given. There is no malformed place, or the bytes fed are too short for the file header.
 pub record GivesNone (old new : Reader) : Type 0 where
   pub stands : (fed : List ℕ) (given : List Captured) → StandsFor old fed given → StandsFor new fed given
-  pub all : (fed : List ℕ) (given : List Captured) → StandsFor old fed given → good_records fed ≡ given
+  pub all : (fed : List ℕ) (given : List Captured) → StandsFor old fed given → (good fed).records ≡ given
   pub first : (fed : List ℕ) (given : List Captured) → StandsFor old fed given → AreFirst fed given
   pub bad : (fed : List ℕ) (given : List Captured) → StandsFor old fed given
-      → MatchOption (good_bad fed) (Unit {0}) (λ b. is_short_header b.what ≡ true)
+      → MatchOption (good fed).bad (Unit {0}) (λ b. is_short_header b.what ≡ true)
   pub waiting : IsWaiting new
   pub given : records_given new ≡ records_given old
   pub fed : bytes_fed new ≡ bytes_fed old
@@ -50,8 +50,8 @@ pub record GivesNone (old new : Reader) : Type 0 where
 -- later call.
 pub record GivesBad (old : Reader) (b : Bad) (new : Reader) : Type 0 where
   pub stands : (fed : List ℕ) (given : List Captured) → StandsFor old fed given → StandsFor new fed given
-  pub all : (fed : List ℕ) (given : List Captured) → StandsFor old fed given → (more : List ℕ) → good_records (fed ++ more) ≡ given
-  pub bad : (fed : List ℕ) (given : List Captured) → StandsFor old fed given → (more : List ℕ) → good_bad (fed ++ more) ≡ Some b
+  pub all : (fed : List ℕ) (given : List Captured) → StandsFor old fed given → (more : List ℕ) → (good (fed ++ more)).records ≡ given
+  pub bad : (fed : List ℕ) (given : List Captured) → StandsFor old fed given → (more : List ℕ) → (good (fed ++ more)).bad ≡ Some b
   pub long : is_short_header b.what ≡ false
   pub fed : bytes_fed new ≡ bytes_fed old
 

@@ -1,11 +1,10 @@
 -- What contracts see of a reader, and which bytes and records it stands for.
-use Rattle.std.specs.Prelude.{◌≡◌, ℕ, ◌+◌, ◌*◌, ◌-◌, ◌≤◌, ◌<◌, List, [], ◌∷◌, ◌++◌, Bool, true, false, length, take, Option, Some, None, Ok, Err}
-use Rattle.ds_base.specs.declared.capture.Bad.{Bad}
+use Rattle.std.specs.Prelude.{◌≡◌, ℕ, ◌+◌, ◌*◌, ◌-◌, ◌≤◌, ◌<◌, List, ◌++◌, true, false, length, take, Option, Some, None, Ok, Err}
 use Rattle.pcap_reader.specs.declared.format.Format.{Format}
 use Rattle.pcap_reader.specs.Captured.{Captured}
 use Rattle.pcap_reader.specs.Format.{header_of, short_header, is_link}
 use Rattle.pcap_reader.specs.Records.{most_records, begins_record, whole_records, behind_records, record_fault}
-use Rattle.pcap_reader.specs.Good.{file_format, good_records, good_rest}
+use Rattle.pcap_reader.specs.Good.{file_format, good_rest, good}
 
 -- `rest` are the bytes that were fed and not yet read, which begin at `place` of the file; `spent` are
 -- bytes in front of them that are still in memory. `count` records were given. The format is known once
@@ -53,7 +52,7 @@ pub record IsUnopened (reader : Reader) (fed : List ℕ) : Type 0 where
 -- given and then those at the front of what is kept, and the same stands behind them.
 pub record IsOpened (format : Format) (reader : Reader) (fed : List ℕ) (given : List Captured) : Type 0 where
   pub header : (more : List ℕ) → file_format (fed ++ more) ≡ Ok format
-  pub records : (more : List ℕ) → good_records (fed ++ more)
+  pub records : (more : List ℕ) → (good (fed ++ more)).records
       ≡ given ++ whole_records format (most_records - reader.count) reader.count (reader.rest ++ more)
   pub rest : (more : List ℕ) → good_rest (fed ++ more)
       ≡ behind_records format (most_records - reader.count) (reader.rest ++ more)

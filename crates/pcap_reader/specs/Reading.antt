@@ -4,7 +4,7 @@ use Rattle.std.specs.List.{flat_map}
 use Rattle.pcap_reader.specs.declared.format.Format.{Format}
 use Rattle.pcap_reader.specs.Captured.{Captured}
 use Rattle.pcap_reader.specs.Records.{longest, most_records, captured_length, record_length, shown}
-use Rattle.pcap_reader.specs.Good.{file_format, good_records, good_rest}
+use Rattle.pcap_reader.specs.Good.{file_format, good_rest, good}
 
 -- The slice is one record: 16 bytes of header and as many bytes as it states, at most 262,144.
 pub record IsRecord (format : Format) (slice : List ℕ) : Type 0 where
@@ -42,7 +42,7 @@ pub record ReadingOf (format : Format) (bytes : List ℕ) : Type 0 where
   pub slices : List (List ℕ)
   pub rest : List ℕ
   pub reading : IsReading format most_records (drop 24 bytes) slices rest
-  pub records : good_records bytes ≡ all_shown format 0 slices
+  pub records : (good bytes).records ≡ all_shown format 0 slices
   pub behind : good_rest bytes ≡ rest
 
 abbrev pub HasReading : Type 0

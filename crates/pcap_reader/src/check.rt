@@ -1,5 +1,5 @@
 ghost use Rattle.std.specs.Prelude.{◌≡◌, ◌<◌, ◌^◌, length, Some, None, IfOk, IfErr};
-ghost use Rattle.pcap_reader.specs.Good.{good_records, good_bad, good_cut};
+ghost use Rattle.pcap_reader.specs.Good.{good};
 
 use crate::format::{front, read_header};
 use crate::record::find_record;
@@ -12,8 +12,8 @@ use ds_base::{Bad, Tail};
 /// `each_fault_has_its_place` and `a_file_that_ends_inside_a_record_is_cut` run both.
 pub fn check_file(bytes: &[u8]) -> Result<Tail, Bad>
     requires { length bytes.now < 2 ^ 62 }
-    ensures whole { IfOk result (λ t. (good_bad bytes.now ≡ None) × (t.records ≡ length (good_records bytes.now)) × (t.cut ≡ good_cut bytes.now)) }
-    ensures bad { IfErr result (λ b. good_bad bytes.now ≡ Some b) }
+    ensures whole { IfOk result (λ t. ((good bytes.now).bad ≡ None) × (t.records ≡ length (good bytes.now).records) × (t.cut ≡ (good bytes.now).cut)) }
+    ensures bad { IfErr result (λ b. (good bytes.now).bad ≡ Some b) }
 {
     let format = read_header(front(bytes, 24))?;
     let mut records = 0;

@@ -1,5 +1,6 @@
-ghost use Rattle.std.specs.Prelude.{ℕ, List};
-ghost use Rattle.pcap_reader.specs.Good.{good_records};
+//! Laws of capture files: calls that do nothing, whose contracts say what is true of every file.
+ghost use Rattle.std.specs.Prelude.{ℕ, ◌≤◌, ◌^◌, List, length};
+ghost use Rattle.pcap_reader.specs.Good.{good};
 ghost use Rattle.pcap_reader.specs.Numbering.{NumberedFrom};
 ghost use Rattle.pcap_reader.specs.Reading.{HasReading, OneReading};
 
@@ -10,7 +11,8 @@ pub fn one_reading()
     ensures only { OneReading }
 {}
 
-/// The records of a file are numbered from 0 on.
+/// The records of a file are numbered from 0 on, and there are at most 2^40.
 pub fn numbered()
-    ensures { (bytes : List ℕ) → NumberedFrom 0 (good_records bytes) }
+    ensures numbers { (bytes : List ℕ) → NumberedFrom 0 (good bytes).records }
+    ensures few { (bytes : List ℕ) → length (good bytes).records ≤ 2 ^ 40 }
 {}

@@ -1,7 +1,7 @@
 ghost use Rattle.std.specs.Prelude.{◌≡◌, ◌+◌, ◌<◌, ◌^◌, ℕ, List, [], ◌++◌, ⊤, length, Option, Some, None, OnOk, OnErr, IfOk, IfErr, IfSome, IfNone, true, false};
 ghost use Rattle.std.specs.Borrow.{sem};
 ghost use Rattle.pcap_reader.specs.Captured.{Captured};
-ghost use Rattle.pcap_reader.specs.Good.{good_records, good_bad, good_cut};
+ghost use Rattle.pcap_reader.specs.Good.{good};
 ghost use Rattle.pcap_reader.specs.Reader.{Reader, StandsFor, IsWaiting, bytes_fed, bytes_held, records_given};
 ghost use Rattle.pcap_reader.specs.Format.{is_short_header};
 ghost use Rattle.pcap_reader.specs.Lent.{captured, IsLawful, Gives, Opens, Advances};
@@ -51,7 +51,7 @@ impl PcapReader {
     #[tactic(auto, unfolding(crate::specs::Format::header_of, crate::specs::Good::good_records))]
     pub fn new(alloc: Global) -> Self
         ensures stands { StandsFor result [] [] }
-        ensures all { good_records [] ≡ [] }
+        ensures all { (good []).records ≡ [] }
         ensures waiting { IsWaiting result }
         ensures given { records_given result ≡ 0 }
         ensures fed { bytes_fed result ≡ 0 }
@@ -151,9 +151,9 @@ impl PcapReader {
     pub fn finish(&self) -> Result<Tail, Bad>
         requires { IsWaiting self.now }
         ensures whole { IfOk result (λ t. (fed : List ℕ) (given : List Captured) → StandsFor self.now fed given →
-            (good_bad fed ≡ None) × (t.records ≡ length (good_records fed)) × (t.cut ≡ good_cut fed)) }
+            ((good fed).bad ≡ None) × (t.records ≡ length (good fed).records) × (t.cut ≡ (good fed).cut)) }
         ensures short { IfErr result (λ b. (fed : List ℕ) (given : List Captured) → StandsFor self.now fed given →
-            (good_bad fed ≡ Some b) × (is_short_header b.what ≡ true)) }
+            ((good fed).bad ≡ Some b) × (is_short_header b.what ≡ true)) }
     {
         match self.format {
             Some(_) => Ok(Tail {

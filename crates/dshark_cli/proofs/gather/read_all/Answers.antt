@@ -1,7 +1,7 @@
 use Rattle.std.proofs.Common.{rules, ◌≡◌, ◌∙◌, ◌++◌, ◌+◌, sym, ap, arith, take, length, append_assoc, length-take}
 use Rattle.std.proofs.lemmas.List.{append-nil}
 use Rattle.std.specs.Prelude.{IsTrue}
-use Rattle.pcap_reader.specs.Good.{good_records}
+use Rattle.pcap_reader.specs.Good.{good}
 use Rattle.pcap_reader.specs.Reader.{bytes_fed}
 use Rattle.dshark_cli.proofs.gather.read_all.Goals as goal
 
@@ -30,11 +30,11 @@ pieces-preserved g c = record {
       let t = c.pieces.invariant.taken in
       let taken = c.in_ok-drain.ensures.all c.args.capture c.args.accepted.now.items t.0 t.1 t.3 t.4 in (
         t.0 ++ take c.in-Ok.n c.read.new.buf,
-        good_records t.0,
+        (good t.0).records,
         (λ told.
             let telling : IsTrue (seen c.pieces.source).told = rw c.pieces.invariant.stays.told told in
             t.2 told ∙ ap (λ xs. t.0 ++ xs) (c.in-Ok.ensures.moved telling) ∙ sym (append_assoc t.0 (take c.in-Ok.n c.read.new.buf) (seen c.read.new.self).left)),
-        c.in-Ok-feed.ensures.stands t.0 (good_records t.0) taken.stands,
+        c.in-Ok-feed.ensures.stands t.0 (good t.0).records taken.stands,
         taken.collects,
       );
   given = c.in_ok-drain.ensures.given ∙ sym c.in-Ok-feed.ensures.given;

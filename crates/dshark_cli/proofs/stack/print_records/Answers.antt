@@ -1,7 +1,7 @@
 use Rattle.std.proofs.lemmas.List.{append-nil}
 use Rattle.std.proofs.Common.{rules, ◌≡◌, ◌∙◌, ◌++◌, ◌+◌, sym, ap, arith, take, length, append_assoc, length-take}
 use Rattle.std.specs.Prelude.{IsTrue}
-use Rattle.pcap_reader.specs.Good.{good_records}
+use Rattle.pcap_reader.specs.Good.{good}
 use Rattle.pcap_reader.specs.Reader.{bytes_fed}
 use Rattle.dshark_cli.specs.Printing.{lines_by}
 use Rattle.dshark_cli.specs.Stacks.{stack_line}
@@ -38,9 +38,9 @@ returns-in_err-write-clause-prefix g c told out =
     let drained = c.in_ok-drain.ensures.ends in
     let asking = c.pieces.printer.asking in
     begun_the_same asking c.args.printer.now.asking start _ (t.0 ++ left) (g.S.Source.seen c.args.source.now).whole c.pieces.invariant.asking (t.2 told)
-    (begun_of_first (stack_line asking.port asking.field) start _ (good_records t.0) (good_records (t.0 ++ left))
-    (stands_first c.drain.new.reader t.0 (good_records t.0) (drained.stands t.0 t.1 t.3) left)
-    (c.write.ensures.prefix start (lines_by asking (good_records t.0)) (drained.text t.0 t.1 start t.3 t.4) out))
+    (begun_of_first (stack_line asking.port asking.field) start _ (good t.0).records (good (t.0 ++ left)).records
+    (stands_first c.drain.new.reader t.0 (good t.0).records (drained.stands t.0 t.1 t.3) left)
+    (c.write.ensures.prefix start (lines_by asking (good t.0).records) (drained.text t.0 t.1 start t.3 t.4) out))
 
 pub returns-in_default-clause-prefix : goal.returns-in_default-clause-prefix
 returns-in_default-clause-prefix g c told out =
@@ -50,9 +50,9 @@ returns-in_default-clause-prefix g c told out =
     let drained = c.in_ok-drain.ensures.ends in
     let asking = c.pieces.printer.asking in
     begun_the_same asking c.args.printer.now.asking start _ (t.0 ++ left) (g.S.Source.seen c.args.source.now).whole c.pieces.invariant.asking (t.2 told)
-    (begun_of_first (stack_line asking.port asking.field) start _ (good_records t.0) (good_records (t.0 ++ left))
-    (stands_first c.drain.new.reader t.0 (good_records t.0) (drained.stands t.0 t.1 t.3) left)
-    (c.write.ensures.prefix start (lines_by asking (good_records t.0)) (drained.text t.0 t.1 start t.3 t.4) out))
+    (begun_of_first (stack_line asking.port asking.field) start _ (good t.0).records (good (t.0 ++ left)).records
+    (stands_first c.drain.new.reader t.0 (good t.0).records (drained.stands t.0 t.1 t.3) left)
+    (c.write.ensures.prefix start (lines_by asking (good t.0).records) (drained.text t.0 t.1 start t.3 t.4) out))
 
 pub returns-then-n-eq0-clause-ends : goal.returns-then-n-eq0-clause-ends
 returns-then-n-eq0-clause-ends g c =
@@ -65,7 +65,7 @@ returns-then-n-eq0-clause-ends g c =
       waiting = drained.waiting;
       given = t.0;
       stands = drained.stands t.0 t.1 t.3;
-      text = printed_the_same c.pieces.printer.asking c.args.printer.now.asking start c.drain.new.printer.text.items (g.O.Sink.seen c.drain.new.out) (good_records t.0) c.pieces.invariant.asking (drained.text t.0 t.1 start t.3 t.4);
+      text = printed_the_same c.pieces.printer.asking c.args.printer.now.asking start c.drain.new.printer.text.items (g.O.Sink.seen c.drain.new.out) (good t.0).records c.pieces.invariant.asking (drained.text t.0 t.1 start t.3 t.4);
       whole = λ told.
           let telling : IsTrue (g.S.Source.seen c.pieces.source).told = rw c.pieces.invariant.stays.told told in
           let none = c.in-Ok.ensures.at_end telling (omega (arith, c.requires.room, c.pieces.auto.buffer)) (search rules) in
@@ -91,12 +91,12 @@ pieces-preserved g c = record {
       let start = (g.O.Sink.seen c.args.out.now).written in
       let drained = c.in_ok-drain.ensures.ends in (
         t.0 ++ take c.in-Ok.n c.read.new.buf,
-        good_records t.0,
+        (good t.0).records,
         (λ told.
             let telling : IsTrue (seen c.pieces.source).told = rw c.pieces.invariant.stays.told told in
             t.2 told ∙ ap (λ xs. t.0 ++ xs) (c.in-Ok.ensures.moved telling) ∙ sym (append_assoc t.0 (take c.in-Ok.n c.read.new.buf) (seen c.read.new.self).left)),
-        c.in-Ok-feed.ensures.stands t.0 (good_records t.0) (drained.stands t.0 t.1 t.3),
-        printed_the_same c.pieces.printer.asking c.drain.new.printer.asking start c.drain.new.printer.text.items (g.O.Sink.seen c.drain.new.out) (good_records t.0) (sym drained.asking) (drained.text t.0 t.1 start t.3 t.4),
+        c.in-Ok-feed.ensures.stands t.0 (good t.0).records (drained.stands t.0 t.1 t.3),
+        printed_the_same c.pieces.printer.asking c.drain.new.printer.asking start c.drain.new.printer.text.items (g.O.Sink.seen c.drain.new.out) (good t.0).records (sym drained.asking) (drained.text t.0 t.1 start t.3 t.4),
       );
   few =
       let fed : bytes_fed c.feed.new.self ≡ bytes_fed c.drain.new.reader + length (take c.in-Ok.n c.read.new.buf) = c.in-Ok-feed.ensures.fed in

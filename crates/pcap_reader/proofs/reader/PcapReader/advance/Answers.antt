@@ -1,4 +1,4 @@
-use Rattle.std.proofs.Common.{◌≡◌, ◌∙◌, ◌+◌, ◌-◌, sym, ap, subst, ℕ, List, length, take, drop, refl, arith, length-append, None, Some}
+use Rattle.std.proofs.Common.{◌≡◌, ◌∙◌, ◌+◌, ◌-◌, sym, ap, subst, ℕ, List, length, take, drop, refl, arith, length-append, None}
 use Rattle.std.proofs.lemmas.Result.{err_from_is_err_and}
 use Rattle.ds_base.specs.declared.capture.Bad.{Bad}
 use Rattle.pcap_reader.specs.declared.format.Format.{Format}
