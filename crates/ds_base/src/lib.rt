@@ -1,6 +1,6 @@
 //! What every crate of the pipeline shares: stamps, numbers, summaries, groups, verdicts and counts,
 //! the lists of them that grow by refusable steps, and the traits of the outside (sources, sinks,
-//! folders, choosers and gates) with objects in memory that keep their promises.
+//! folders, pipe ends, choosers and gates) with objects in memory that keep their promises.
 #![tactic(auto)]
 
 mod capture;
@@ -11,6 +11,7 @@ mod gate;
 mod item_list;
 mod memory;
 mod nums;
+mod pipe;
 mod profile_row;
 mod sink;
 mod source;
@@ -31,6 +32,7 @@ pub use gate::{Gate, OpenGate};
 pub use item_list::ItemList;
 pub use memory::OutOfMemory;
 pub use nums::Nums;
+pub use pipe::{PipeRx, PipeTx};
 pub use profile_row::ProfileRow;
 pub use sink::Sink;
 pub use source::{Failed, Source};

@@ -1,7 +1,7 @@
 use crate::{
     Choice, Chooser, Failed, FileList, Folder, Gate, ItemList, KeyList, ListChooser, MemFolder,
-    MemSink, MemSource, NamedFile, NoFile, Nums, OpenGate, Sink, Source, SureFolder, SureSink,
-    SureSource, Text,
+    MemSink, MemSource, NamedFile, NoFile, Nums, OpenGate, PipeRx, PipeTx, Sink, Source,
+    SureFolder, SureSink, SureSource, Text,
 };
 use std::alloc::{AllocError, Global};
 use std::test::Fail;
@@ -148,4 +148,86 @@ fn a_chooser_gives_its_list_and_then_none(rt: HostRuntime) -> Result<(), Fail> {
     assert_eq!(rt; chooser.next(), None);
     OpenGate.pass(0);
     Ok(())
+}
+
+/// An end that tells, takes so many bytes, and then is full.
+#[derive(Drop)]
+struct FillingEnd {
+    sent: Vec<u8>,
+    room: usize,
+    silent: u64,
+    faults: u64,
+}
+
+impl PipeTx for FillingEnd {
+    ghost use Rattle.std.specs.Prelude.{true};
+
+    ghost seen = { λ end. record { told = true; bytes = end.sent.items; faults = end.faults; silent = end.silent; sure = 0 } };
+
+    fn write(&mut self, piece: &[u8]) -> Result<usize, Failed> {
+        let n = piece.len().min(self.room);
+        if self.sent.extend_from_slice(&piece[..n]).is_err() {
+            self.faults = self.faults.saturating_add(1);
+            return Err(Failed);
+        }
+        self.room -= n;
+        if n > 0 {
+            self.silent = 0;
+        } else if !piece.is_empty() {
+            self.silent = self.silent.saturating_add(1);
+        }
+        Ok(n)
+    }
+}
+
+/// An end that tells nothing, and gives one byte a call until it fails.
+#[derive(Drop)]
+struct FailingEnd {
+    left: u32,
+    silent: u64,
+    faults: u64,
+}
+
+impl PipeRx for FailingEnd {
+    ghost use Rattle.std.specs.Prelude.{[], false};
+
+    ghost seen = { λ end. record { told = false; bytes = []; faults = end.faults; silent = end.silent; sure = 0 } };
+
+    fn read(&mut self, buf: &mut [u8]) -> Result<usize, Failed> {
+        if buf.is_empty() {
+            return Ok(0);
+        }
+        if self.left == 0 {
+            self.faults = self.faults.saturating_add(1);
+            return Err(Failed);
+        }
+        self.left -= 1;
+        self.silent = 0;
+        buf[0] = b'x';
+        Ok(1)
+    }
+}
+
+/// The contract of a pipe end is kept both by an end that tells and by one that tells nothing.
+#[test]
+fn pipe_ends_count_how_often_they_answered_nothing(rt: HostRuntime) {
+    let mut tx = FillingEnd {
+        sent: Vec::new(rt.alloc()),
+        room: 2,
+        silent: 0,
+        faults: 0,
+    };
+    assert_eq!(rt; tx.write(b"abc"), Ok(2));
+    assert_eq!(rt; tx.write(b"c"), Ok(0));
+    assert_eq!(rt; tx.write(b""), Ok(0));
+    assert_eq!(rt; tx.silent, 1);
+    let mut rx = FailingEnd {
+        left: 1,
+        silent: 0,
+        faults: 0,
+    };
+    let mut buf = [0u8; 2];
+    assert_eq!(rt; rx.read(&mut buf), Ok(1));
+    assert_eq!(rt; rx.read(&mut buf), Err(Failed));
+    assert_eq!(rt; rx.faults, 1);
 }
