@@ -17,3 +17,9 @@ pub record HasPlaced (now : Open) (window : ℕ) (front : List Summary) (given :
   pub one_window : now.window ≡ window
   pub groups : groups_of window front ≡ given ++ now.held
   pub over : AllByRecursion (IsOver window time) given
+
+-- The same, whether or not the groups given out were over: the groups of `front` by this window are those given
+-- and those held.
+pub record HasGiven (now : Open) (window : ℕ) (front : List Summary) (given : List Copies) : Type 0 where
+  pub one_window : now.window ≡ window
+  pub groups : groups_of window front ≡ given ++ now.held

@@ -1,9 +1,11 @@
-ghost use Rattle.std.specs.Prelude.{ℕ, List, ◌≡◌, ◌≤◌, ◌++◌, ◌∷◌, [], OnOk, IfSome, IfNone, MatchBool};
+ghost use Rattle.std.specs.Prelude.{ℕ, List, ◌≡◌, ◌≤◌, ◌++◌, ◌∷◌, [], OnOk, OnErr, IfSome, IfNone, MatchBool};
 ghost use Rattle.ds_base.specs.Copies.{Copies, copies_of};
 ghost use Rattle.ds_base.specs.Order.{InStampOrder};
 ghost use Rattle.ds_base.specs.declared.summary.Summary.{Summary};
-ghost use Rattle.window_grouper.specs.Open.{HasPlaced};
+ghost use Rattle.window_grouper.specs.Groups.{groups_of};
+ghost use Rattle.window_grouper.specs.Open.{HasGiven, HasPlaced};
 ghost use Rattle.window_grouper.specs.Over.{FirstIsOver, FirstIsOpen};
+ghost use Rattle.window_grouper.specs.Placing.{HaveBegun, placed};
 
 use crate::newest::Newest;
 use crate::placing::place;
@@ -58,9 +60,11 @@ impl OpenGroups {
 
     /// Places a summary that is behind all that were placed: in the newest group of its key where its
     /// time is in that group's window, and else in a group of its own. The only refusal is want of
-    /// memory.
+    /// memory, and then the groups are as they were.
     pub fn place(&mut self, s: &Summary) -> Result<(), OutOfMemory>
         ensures window { self.new.window ≡ self.old.window }
+        ensures grown { OnOk result (HaveBegun s.now.at.time self.old.held → self.new.held ≡ placed self.old.window s.now self.old.held) }
+        ensures kept { OnErr result (self.new ≡ self.old) }
         ensures placed { OnOk result ((window : ℕ) (front : List Summary) (given : List Copies) (time : ℕ) →
             HasPlaced self.old window front given time → time ≤ s.now.at.time → InStampOrder (front ++ s.now ∷ []) →
             HasPlaced self.new window (front ++ s.now ∷ []) given time) }
@@ -118,6 +122,10 @@ impl OpenGroups {
         ensures first { IfSome result (λ group. self.old.held ≡ copies_of group ∷ self.new.held) }
         ensures none { IfNone result (self.old.held ≡ []) }
         ensures unchanged { IfNone result (self.new ≡ self.old) }
+        ensures gives { (window : ℕ) (front : List Summary) (given : List Copies) → HasGiven self.old window front given →
+            IfSome result (λ group. HasGiven self.new window front (given ++ copies_of group ∷ [])) }
+        ensures all { (window : ℕ) (front : List Summary) (given : List Copies) → HasGiven self.old window front given →
+            IfNone result (groups_of window front ≡ given) }
     {
         let group = self.groups.pop_front()?;
         self.newest.forget(&group.key, self.given);

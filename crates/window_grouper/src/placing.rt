@@ -9,7 +9,7 @@ use std::collections::VecDeque;
 
 /// Places a summary among the groups that are held, where `given` groups were given out before them: in
 /// the newest group with its key where its time is in that group's window, and else in a group of its
-/// own. The only refusal is want of memory.
+/// own. The only refusal is want of memory, and then the groups are as they were.
 pub(crate) fn place(
     groups: &mut VecDeque<Group>,
     newest: &mut Newest,
@@ -21,6 +21,7 @@ pub(crate) fn place(
     ensures sound { IsSound window given newest.new (shown groups.new.items) }
     ensures placed { OnOk result (HaveBegun s.now.at.time (shown groups.old.items)
         → shown groups.new.items ≡ placed window s.now (shown groups.old.items)) }
+    ensures kept { OnErr result (shown groups.new.items ≡ shown groups.old.items) }
 {
     match taker(newest, given, window, s) {
         Some(place) => join(groups, place, s),
