@@ -9,7 +9,8 @@ use Rattle.pcap_reader.specs.Format.{header_of, is_short_header, short_header}
 use Rattle.pcap_reader.specs.Records.{most_records, record_length, begins_record, first_record, whole_records, behind_records, record_fault, IsLast}
 use Rattle.pcap_reader.specs.Good.{file_format, good_records, good_rest, good_bad, good_cut, records_under, rest_under, bad_under}
 use Rattle.pcap_reader.specs.Reader.{Reader, IsUnopened, IsOpened, IsAt, StandsFor, WaitsAt, IsWaiting, bytes_fed, bytes_held}
-use Rattle.pcap_reader.specs.Lent.{GivesNext, GivesNone, GivesBad, IsNowOpen}
+use Rattle.pcap_reader.specs.Lent.{AreFirst, GivesNext, GivesNone, GivesBad, IsNowOpen}
+use Rattle.pcap_reader.specs.Laws.{GivenAreFirst, HasAll, WaitingHasAll}
 use Rattle.pcap_reader.proofs.Runs.{whole_more, behind_more, whole_end, behind_end}
 use Rattle.pcap_reader.proofs.Fronts.{shown_number, Fits, begins_fits, last_append, fault_append, header_append}
 
@@ -184,8 +185,8 @@ now_open f old new closed long h format count place rest fed given s =
 pub gives_next : (f : Format) (old new : Reader) → old.format ≡ Some f → new.format ≡ Some f
     → old.count < most_records → begins_record f old.rest ≡ true → new.count ≡ old.count + 1
     → new.place ≡ old.place + record_length f old.rest → new.rest ≡ drop (record_length f old.rest) old.rest
-    → GivesNext old (first_record f old.count old.rest) new
-gives_next f old new was format few h count place rest =
+    → bytes_held new ≤ bytes_held old → GivesNext old (first_record f old.count old.rest) new
+gives_next f old new was format few h count place rest held =
     let p : Fits f old.rest = begins_fits f old.rest h in
     let fits : length new.rest ≡ length old.rest - record_length f old.rest = ap length rest ∙ length-drop (record_length f old.rest) old.rest in
     let same : bytes_fed new ≡ bytes_fed old = omega (arith, fits, place, p.whole) in
@@ -205,12 +206,13 @@ gives_next f old new was format few h count place rest =
       given = count;
       fed = same;
       left = omega (arith, fits, p.whole);
+      held = held;
     }
 
 -- no whole record is left, and no malformed place
 pub gives_none : (f : Format) (old new : Reader) → old.format ≡ Some f → IsSame old new → IsLast f old.count old.rest
-    → record_fault f old.count old.place old.rest ≡ None → bytes_held new ≤ 262159 → GivesNone old new
-gives_none f old new was e last fault held =
+    → record_fault f old.count old.place old.rest ≡ None → new.spent ≡ [] → bytes_held new ≤ 262159 → GivesNone old new
+gives_none f old new was e last fault dropped short =
     let all : (fed : List ℕ) (given : List Captured) → StandsFor old fed given → IsAll f old fed given old.rest =
     λ fed given s. all_given f old fed given (at_opened f old fed given was s) s.fed_length s.given_length last in
     let W : Option Format → Type 0 = λ o. WaitsAt o new in
@@ -233,7 +235,8 @@ gives_none f old new was e last fault held =
       };
       given = e.count;
       fed = same_fed old new e;
-      held = held;
+      held = omega (arith, ap length e.rest, ap length dropped);
+      short = short;
     }
 
 -- the malformed place is next
@@ -248,7 +251,9 @@ gives_bad f reader b was last fault long =
       all = λ fed given s more. (all fed given s more).records;
       bad = λ fed given s more. (all fed given s more).bad ∙ fault_append f reader.count reader.place reader.rest more b fault;
       long = long;
+      given = refl;
       fed = refl;
+      held = omega arith;
     }
 
 -- what an unread header with a fault says of the file
@@ -260,8 +265,8 @@ unread reader b fed given closed h s =
     let none : given ≡ [] = nil_from_length given (s.given_length ∙ u.count) in
     (records_of_fault b fed format ∙ sym none, bad_of_fault b fed format)
 
-pub short_gives_none : (old new : Reader) → old.format ≡ None → IsSame old new → WaitsAt None old → bytes_held new ≤ 262159 → GivesNone old new
-short_gives_none old new closed e waits held =
+pub short_gives_none : (old new : Reader) → old.format ≡ None → IsSame old new → WaitsAt None old → new.spent ≡ [] → bytes_held new ≤ 262159 → GivesNone old new
+short_gives_none old new closed e waits dropped short =
     let b : Bad = short_header (take 24 old.rest) in
     let W : Option Format → Type 0 = λ o. WaitsAt o new in
     record {
@@ -281,7 +286,8 @@ short_gives_none old new closed e waits held =
       };
       given = e.count;
       fed = same_fed old new e;
-      held = held;
+      held = omega (arith, ap length e.rest, ap length dropped);
+      short = short;
     }
 
 pub unread_gives_bad : (reader : Reader) (b : Bad) → reader.format ≡ None → header_of (take 24 reader.rest) ≡ Err b
@@ -296,7 +302,9 @@ unread_gives_bad reader b closed h long =
           ∙ sym (nil_from_length given (s.given_length ∙ (at_unopened reader fed given closed s).count));
       bad = λ fed given s more. bad_of_fault b (fed ++ more) (fault fed given s more);
       long = long;
+      given = refl;
       fed = refl;
+      held = omega arith;
     }
 
 -- the same after a look at the file header
@@ -308,6 +316,7 @@ next_after f old mid new r o g = record {
   given = g.given ∙ ap (λ (n : ℕ). n + 1) o.given;
   fed = g.fed ∙ o.fed;
   left = omega (arith, g.left, o.left);
+  held = omega (arith, g.held, o.held);
 }
 
 pub none_after : (f : Format) (old mid new : Reader) → IsNowOpen old f mid → GivesNone mid new → GivesNone old new
@@ -319,7 +328,8 @@ none_after f old mid new o g = record {
   waiting = g.waiting;
   given = g.given ∙ o.given;
   fed = g.fed ∙ o.fed;
-  held = g.held;
+  held = omega (arith, g.held, o.held);
+  short = g.short;
 }
 
 pub bad_after : (f : Format) (old mid : Reader) (b : Bad) → IsNowOpen old f mid → GivesBad mid b mid → GivesBad old b mid
@@ -328,7 +338,9 @@ bad_after f old mid b o g = record {
   all = λ fed given s. g.all fed given (o.stands fed given s);
   bad = λ fed given s. g.bad fed given (o.stands fed given s);
   long = g.long;
+  given = g.given ∙ o.given;
   fed = g.fed ∙ o.fed;
+  held = omega (arith, g.held, o.held);
 }
 
 -- the end of a file that was read
@@ -359,3 +371,31 @@ short_tail reader fed given closed w s =
     let waits : WaitsAt None reader = subst W closed w.waits in
     (unread reader (short_header (take 24 reader.rest)) fed given closed (waits.1) s).1
     ∙ ap (λ (xs : List ℕ). Some (short_header xs)) (take_all 24 reader.rest (omega (arith, waits.0)))
+
+-- ---- laws
+
+first_at : (format : Option Format) (reader : Reader) (fed : List ℕ) (given : List Captured) → length given ≡ reader.count
+    → IsAt format reader fed given → AreFirst fed given
+first_at None reader fed given few at more =
+    let none : given ≡ [] = nil_from_length given (few ∙ at.count) in
+    (good_records (fed ++ more), ap (λ (rs : List Captured). rs ++ good_records (fed ++ more)) (sym none))
+first_at (Some f) reader fed given few at more = (whole_records f (most_records - reader.count) reader.count (reader.rest ++ more), at.records more)
+
+-- the records that a reader has given are the first of the file, whatever bytes follow
+pub stands_first : GivenAreFirst
+stands_first reader fed given s = first_at reader.format reader fed given s.given_length s.position
+
+all_at : (format : Option Format) (reader : Reader) (fed : List ℕ) (given : List Captured) → reader.format ≡ format → WaitsAt format reader
+    → StandsFor reader fed given → HasAll fed given
+all_at None reader fed given closed waits s =
+    let e = unread reader (short_header (take 24 reader.rest)) fed given closed waits.1 s in
+    let M : Option Bad → Type 0 = λ o. MatchOption o (Unit {0}) (λ b. is_short_header b.what ≡ true) in
+    (e.0, subst M (sym e.1) refl)
+all_at (Some f) reader fed given was waits s =
+    let all : IsAll f reader fed given reader.rest = all_given f reader fed given (at_opened f reader fed given was s) s.fed_length s.given_length waits.0 in
+    let M : Option Bad → Type 0 = λ o. MatchOption o (Unit {0}) (λ b. is_short_header b.what ≡ true) in
+    (all.records, subst M (sym (all.bad ∙ waits.1)) tt)
+
+-- a reader that waits has given all records of the bytes fed
+pub waiting_has_all : WaitingHasAll
+waiting_has_all reader fed given w s = all_at reader.format reader fed given refl w.waits s

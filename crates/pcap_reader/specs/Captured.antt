@@ -1,3 +1,4 @@
+-- One record of a capture file.
 use Rattle.std.specs.Prelude.{ℕ, List}
 
 -- One record of a capture file (libpcap file format 2.4): its number in the file, counted from 0, its

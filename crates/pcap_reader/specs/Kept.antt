@@ -1,3 +1,4 @@
+-- The bytes in memory.
 use Rattle.std.specs.Prelude.{ℕ, List}
 
 -- What a buffer holds: bytes that were used up and are still there, and the bytes behind them.

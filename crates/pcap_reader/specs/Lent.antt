@@ -33,6 +33,7 @@ pub record GivesNext (old : Reader) (r : Captured) (new : Reader) : Type 0 where
   pub given : records_given new ≡ records_given old + 1
   pub fed : bytes_fed new ≡ bytes_fed old
   pub left : bytes_left new < bytes_left old
+  pub held : bytes_held new ≤ bytes_held old
 
 -- All records were given. There is no malformed place, or the bytes fed are too short for the file header.
 pub record GivesNone (old new : Reader) : Type 0 where
@@ -44,7 +45,8 @@ pub record GivesNone (old new : Reader) : Type 0 where
   pub waiting : IsWaiting new
   pub given : records_given new ≡ records_given old
   pub fed : bytes_fed new ≡ bytes_fed old
-  pub held : bytes_held new ≤ 262159
+  pub held : bytes_held new ≤ bytes_held old
+  pub short : bytes_held new ≤ 262159
 
 -- All records were given, and this is the malformed place, whatever bytes follow. It comes again at each
 -- later call.
@@ -53,7 +55,9 @@ pub record GivesBad (old : Reader) (b : Bad) (new : Reader) : Type 0 where
   pub all : (fed : List ℕ) (given : List Captured) → StandsFor old fed given → (more : List ℕ) → (good (fed ++ more)).records ≡ given
   pub bad : (fed : List ℕ) (given : List Captured) → StandsFor old fed given → (more : List ℕ) → (good (fed ++ more)).bad ≡ Some b
   pub long : is_short_header b.what ≡ false
+  pub given : records_given new ≡ records_given old
   pub fed : bytes_fed new ≡ bytes_fed old
+  pub held : bytes_held new ≤ bytes_held old
 
 -- What `next` answers of a reader, and the reader afterwards
 abbrev pub Gives : Reader → Result (Option RecordRef) Bad → Reader → Type 0
@@ -67,6 +71,7 @@ pub record IsNowOpen (old : Reader) (f : Format) (new : Reader) : Type 0 where
   pub given : records_given new ≡ records_given old
   pub fed : bytes_fed new ≡ bytes_fed old
   pub left : bytes_left new ≤ bytes_left old
+  pub held : bytes_held new ≤ bytes_held old
 
 -- what a look at the file header answers, and the reader afterwards
 abbrev pub Opens : Reader → Result (Option Format) Bad → Reader → Type 0

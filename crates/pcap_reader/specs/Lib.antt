@@ -7,3 +7,4 @@ pub mod Numbering
 pub mod Reader
 pub mod Lent
 pub mod Reading
+pub mod Laws

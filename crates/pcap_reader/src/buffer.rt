@@ -1,3 +1,4 @@
+//! The bytes that a reader keeps.
 ghost use Rattle.std.specs.Prelude.{◌≡◌, ◌+◌, ◌-◌, ◌≤◌, ◌++◌, [], length, take, drop, OnOk, OnErr};
 
 use ds_base::OutOfMemory;

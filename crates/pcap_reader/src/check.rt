@@ -1,3 +1,4 @@
+//! The plain program beside the reader, over a file that is in memory whole.
 ghost use Rattle.std.specs.Prelude.{◌≡◌, ◌<◌, ◌^◌, length, Some, None, IfOk, IfErr};
 ghost use Rattle.pcap_reader.specs.Good.{good};
 

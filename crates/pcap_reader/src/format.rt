@@ -1,3 +1,4 @@
+//! The file header, and the numbers of the file.
 ghost use Rattle.std.specs.Prelude.{◌≡◌, ◌+◌, ◌≤◌, ◌<◌, true, length, take, OnOk, IfOk, IfErr};
 ghost use Rattle.pcap_reader.specs.Format.{number, word, magic_of, header_of, is_short_header, short_header, is_link};
 

@@ -1,6 +1,7 @@
 //! Laws of capture files: calls that do nothing, whose contracts say what is true of every file.
 ghost use Rattle.std.specs.Prelude.{ℕ, ◌≤◌, ◌^◌, List, length};
 ghost use Rattle.pcap_reader.specs.Good.{good};
+ghost use Rattle.pcap_reader.specs.Laws.{GivenAreFirst, WaitingHasAll};
 ghost use Rattle.pcap_reader.specs.Numbering.{NumberedFrom};
 ghost use Rattle.pcap_reader.specs.Reading.{HasReading, OneReading};
 
@@ -15,4 +16,11 @@ pub fn one_reading()
 pub fn numbered()
     ensures numbers { (bytes : List ℕ) → NumberedFrom 0 (good bytes).records }
     ensures few { (bytes : List ℕ) → length (good bytes).records ≤ 2 ^ 40 }
+{}
+
+/// What a reader has given is the front of what the file holds, whatever bytes follow; and where `next`
+/// answered None and nothing was fed since, it is all that the bytes fed hold.
+pub fn given_are_first()
+    ensures first { GivenAreFirst }
+    ensures all { WaitingHasAll }
 {}

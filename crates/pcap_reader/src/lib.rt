@@ -18,6 +18,6 @@ mod record;
 mod tests;
 
 pub use check::check_file;
-pub use laws::{numbered, one_reading};
+pub use laws::{given_are_first, numbered, one_reading};
 pub use reader::PcapReader;
 pub use record::RecordRef;

@@ -1,4 +1,5 @@
-ghost use Rattle.std.specs.Prelude.{◌≡◌, ◌+◌, ◌<◌, ◌^◌, ℕ, List, [], ◌++◌, ⊤, length, Option, Some, None, OnOk, OnErr, IfOk, IfErr, IfSome, IfNone, true, false};
+//! The reader: bytes come in by `feed`, and records are lent by `next`.
+ghost use Rattle.std.specs.Prelude.{◌≡◌, ◌+◌, ◌<◌, ◌≤◌, ◌^◌, ℕ, List, [], ◌++◌, ⊤, length, Option, Some, None, OnOk, OnErr, IfOk, IfErr, IfSome, IfNone, true, false};
 ghost use Rattle.std.specs.Borrow.{sem};
 ghost use Rattle.pcap_reader.specs.Captured.{Captured};
 ghost use Rattle.pcap_reader.specs.Good.{good};
@@ -72,6 +73,7 @@ impl PcapReader {
             StandsFor self.old fed given → StandsFor self.new (fed ++ piece.now) given) }
         ensures given { OnOk result (records_given self.new ≡ records_given self.old) }
         ensures fed { OnOk result (bytes_fed self.new ≡ bytes_fed self.old + length piece.now) }
+        ensures held { OnOk result (bytes_held self.new ≤ bytes_held self.old + length piece.now) }
         ensures refused { OnErr result (self.new ≡ self.old) }
     {
         self.bytes.append(piece)

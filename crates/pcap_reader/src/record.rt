@@ -1,3 +1,4 @@
+//! One record: where it ends, and what it says.
 ghost use Rattle.std.specs.Prelude.{◌≡◌, ◌+◌, ◌<◌, ◌≤◌, ◌^◌, length, Option, None, Some, IfOk, IfSome, IfNone};
 ghost use Rattle.pcap_reader.specs.Records.{begins_record, record_fault, time_of, shown, Finds};
 ghost use Rattle.pcap_reader.specs.Lent.{captured};

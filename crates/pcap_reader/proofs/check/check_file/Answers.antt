@@ -67,7 +67,8 @@ loop-len-preserved c =
     let old : Reader = reader_at (Some f) count at bytes in
     let new : Reader = reader_at (Some f) (count + 1) (at + len) bytes in
     let next = gives_next f old new refl refl (found.0) (found.1) refl (ap (λ (n : ℕ). at + n) (found.2))
-    (sym (drop-drop len at bytes) ∙ ap (λ (n : ℕ). drop n (drop at bytes)) (found.2)) in
+    (sym (drop-drop len at bytes) ∙ ap (λ (n : ℕ). drop n (drop at bytes)) (found.2))
+    (omega (arith, length-drop at bytes, length-drop (at + len) bytes)) in
     record {
       within = omega (arith, c.loop-len.invariant.within, bounds.1, length-drop at bytes);
       stands = (_, next.stands bytes c.loop-len.invariant.stands.0 c.loop-len.invariant.stands.1);

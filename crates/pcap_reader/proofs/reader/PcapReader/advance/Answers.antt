@@ -1,4 +1,4 @@
-use Rattle.std.proofs.Common.{◌≡◌, ◌∙◌, ◌+◌, ◌-◌, sym, ap, subst, ℕ, List, length, take, drop, refl, arith, length-append, None}
+use Rattle.std.proofs.Common.{◌≡◌, ◌∙◌, ◌+◌, ◌-◌, sym, ap, subst, ℕ, List, length, take, drop, refl, arith, length-append, length-drop, None}
 use Rattle.std.proofs.lemmas.Result.{err_from_is_err_and}
 use Rattle.ds_base.specs.declared.capture.Bad.{Bad}
 use Rattle.pcap_reader.specs.declared.format.Format.{Format}
@@ -33,7 +33,7 @@ returns-in_default c =
         count = ap (λ (r : Reader). r.count) was;
         place = ap (λ (r : Reader). r.place) was;
         rest = rest;
-      }) (e.2) (omega (arith, ap length c.drop_spent.ensures.spent, ap length rest, e.2.0)),
+      }) (e.2) c.drop_spent.ensures.spent (omega (arith, ap length c.drop_spent.ensures.spent, ap length rest, e.2.0)),
       omega (arith, bounded.0, ap length rest, e.2.0),
     )
 
@@ -70,7 +70,16 @@ returns-in-Some-2 c =
     let next : GivesNext c.args.self.now (first_record f number c.self.inside.bytes.rest) new =
     next_after f c.args.self.now mid new _ opening (gives_next f mid new (opening.format) (opening.format) (found.0) (found.1) refl
     (ap (λ (n : ℕ). c.self.inside.place + n) (found.2))
-    (c.spend.ensures.rest ∙ ap (λ (n : ℕ). drop n c.self.inside.bytes.rest) (found.2))) in
+    (c.spend.ensures.rest ∙ ap (λ (n : ℕ). drop n c.self.inside.bytes.rest) (found.2))
+    (omega (
+      arith,
+      ap length c.spend.ensures.spent,
+      length-append c.self.inside.bytes.spent slice,
+      slice_length,
+      ap length c.spend.ensures.rest,
+      length-drop len c.self.inside.bytes.rest,
+      bounds.1,
+    ))) in
     let N : List ℕ → Type 0 = λ xs. GivesNext c.args.self.now (shown f number xs) new in
     record {
       next = subst N (ap (λ (n : ℕ). take n c.self.inside.bytes.rest) (sym (found.2)) ∙ sym is_slice) next;
@@ -97,6 +106,6 @@ returns-in-None c =
         count = refl;
         place = refl;
         rest = c.drop_spent-in-None.ensures.rest;
-      }) (found.0) (found.1) (omega (arith, ap length c.drop_spent-in-None.ensures.spent, ap length c.drop_spent-in-None.ensures.rest, short))),
+      }) (found.0) (found.1) c.drop_spent-in-None.ensures.spent (omega (arith, ap length c.drop_spent-in-None.ensures.spent, ap length c.drop_spent-in-None.ensures.rest, short))),
       omega (arith, bounded.0, bounded.1, ap length c.drop_spent-in-None.ensures.rest, short),
     )

@@ -1,4 +1,4 @@
-use Rattle.std.proofs.Common.{◌≡◌, ◌∙◌, ◌+◌, ◌-◌, ◌<◌, ◌≤◌, sym, ap, ℕ, List, length, take, drop, refl, arith, None, Err, length-take, length-drop}
+use Rattle.std.proofs.Common.{◌≡◌, ◌∙◌, ◌+◌, ◌-◌, ◌<◌, ◌≤◌, sym, ap, ℕ, List, length, take, drop, refl, arith, None, Err, length-take, length-drop, length-append}
 use Rattle.ds_base.specs.declared.capture.Bad.{Bad}
 use Rattle.pcap_reader.specs.Reader.{Reader}
 use Rattle.pcap_reader.specs.Format.{header_of, short_header}
@@ -42,6 +42,16 @@ returns-in-Ok c =
       given = ap (λ (r : Reader). r.count) c.self.view_is;
       fed = omega (arith, long, left, place);
       left = omega (arith, left);
+      held = omega (
+        arith,
+        long,
+        left,
+        ap length c.spend.ensures.spent,
+        length-append c.self.inside.bytes.spent (take 24 c.self.inside.bytes.rest),
+        length-take 24 c.self.inside.bytes.rest,
+        ap length rest,
+        ap length (ap (λ (r : Reader). r.spent) c.self.view_is),
+      );
     }
 
 pub returns-after-is_short : goal.returns-after-is_short
