@@ -1,4 +1,4 @@
-ghost use Rattle.std.specs.Prelude.{◌≡◌, ◌<◌, ◌++◌, [], ◌∷◌, length, slice_get, Some};
+ghost use Rattle.std.specs.Prelude.{◌≡◌, ◌<◌, ◌≤◌, ◌++◌, [], ◌∷◌, length, slice_get, Some};
 
 use std::marker::Model;
 
@@ -53,6 +53,14 @@ impl Nums {
         ensures { slice_get self.now i ≡ Some result }
     {
         self.slots[i as usize]
+    }
+
+    /// All numbers, of which there are at most 16.
+    pub fn as_slice(&self) -> &[u128]
+        ensures value { result.now ≡ self.now }
+        ensures few { length self.now ≤ 16 }
+    {
+        self.slots.split_at(self.len as usize).0
     }
 
     /// Puts a number at the end.
