@@ -8,7 +8,7 @@ PROGRAM = crates/dshark_cli/out/dshark_cli
 
 .PHONY: demo test install
 
-# `rt run` proves the program and the crates below it, builds it, and runs it with the words behind `--`.
+# `rt run` proves the program and the crates below it, builds it, and runs it with the words after `--`.
 demo:
 	cd crates/dshark_cli && rt run -- count 'ipv4[0].id' 1000000 ../../$(SAMPLE)
 	cd $(NETWORK) && '$(CURDIR)/$(PROGRAM)' central job.json

@@ -2,7 +2,7 @@
 //
 // libpcap 2.4, little-endian, microseconds. Packet number p has the IPv4 identification p mod 65536 and is
 // captured COPIES times (default 1), 40 microseconds apart; packets begin 100 microseconds apart. PAYLOAD is
-// the number of bytes behind the UDP header (default 22, which makes frames of 64 bytes with the headers).
+// the number of bytes after the UDP header (default 22, which makes frames of 64 bytes with the headers).
 // With `tunnels`, records are in turn the frame in VXLAN and its IPv4 packet in GRE with a key, each over IPv4 and
 // Ethernet of their own (114 and 92 bytes of frame for a payload of 22).
 // The records stand in the order of their times, so the file grows as it is written and needs no memory.

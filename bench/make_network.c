@@ -3,7 +3,7 @@
 // libpcap 2.4, little-endian; the odd captures keep microseconds, the even ones nanoseconds. Packets begin 100
 // microseconds apart. Packet number p has the IPv4 identification p mod 65536, and passes 2 to 4 of the eight points,
 // 1 to 20 microseconds apart; every thousandth comes back to its first point at the end. At each point its TTL is one
-// less, and a copy is left there: bare, in VXLAN and in GRE in turn. PAYLOAD is the number of bytes behind the UDP
+// less, and a copy is left there: bare, in VXLAN and in GRE in turn. PAYLOAD is the number of bytes after the UDP
 // header (default 22). All copies of a packet lie before the next one begins, so each file is in the order of its
 // times as it is written. Prints the number of records.
 #include <stdint.h>

@@ -1,4 +1,4 @@
-# Sourced by the benches of whole commands, behind the reading of their words, with the words that are left: it finds the
+# Sourced by the benches of whole commands, after they have read their words, with the words that are left: it finds the
 # program, makes a temporary folder, and times rows of commands.
 name=$(basename "$0")
 program=$(realpath "${1:-$here/../crates/dshark_cli/out/dshark_cli}")

@@ -3,7 +3,7 @@
 
 libpcap 2.4, little-endian, microseconds, Ethernet. The identifications of the IPv4 packets are chosen so that
 each line of the report of `count ipv4[0].id 1000000` has something to show: copies inside the window, copies
-behind it, a frame without IPv4, a packet that stands out of order, one that comes too late, and a file that ends
+after it, a frame without IPv4, a packet that stands out of order, one that comes too late, and a file that ends
 inside its last record.
 """
 

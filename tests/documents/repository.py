@@ -57,7 +57,7 @@ def made_in_file(path, text):
     if path.endswith(".rt"):
         code, _ = split_code(text)
         found = [name for form in (ITEM, CLAUSE, FIELD, PARAMETER, VARIANT) for name in form.findall(code)]
-        # A variant may stand behind another on its line.
+        # Several variants may stand on one line.
         for body in re.findall(r"\benum \w+[^{]*\{([^}]*)\}", code):
             found += re.findall(r"\b[A-Z]\w*", body)
         return set(found)

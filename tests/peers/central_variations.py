@@ -33,7 +33,7 @@ def copy(time, identification, ttl=64, wrapping="bare"):
 
 
 def cut():
-    """Files that end inside the last record's bytes, one byte into them, inside its header, and behind its header."""
+    """Files that end inside the last record's bytes, one byte into them, inside its header, and after its header."""
     whole = files(captured())
     last = {name: 16 + len(of[-1][1]) for name, of in captured().items()}
     less = {"s1": 10, "s2": last["s2"] - 17, "s3": last["s3"] - 9, "s4": last["s4"] - 16}
@@ -51,7 +51,7 @@ def equal_times():
 
 
 def window_ends():
-    """Copies at the end of the window and a nanosecond behind it, where another group begins, twice."""
+    """Copies at the end of the window and a nanosecond after it, where another group begins, twice."""
     records = {
         "s1": [copy(0, 7), copy(1_000_001, 7), copy(2_000_001, 7, 63)],
         "s2": [copy(1_000_000, 7, 63), copy(2_000_002, 7)],
@@ -66,7 +66,7 @@ def no_window():
 
 
 def late():
-    """Records out of order: by the skew, by a nanosecond more, and behind a newest that has no identification."""
+    """Records out of order: by the skew, by a nanosecond more, and after a newest that has no identification."""
     records = {
         "s1": [copy(1_000, 7), copy(500, 8), copy(499, 9), (START + 2_000, question("s1")), copy(1_499, 10), copy(1_500, 11)],
         "s2": [copy(0, 9), copy(900, 7, 60), (START, question("s1")), copy(400, 8, 60)],

@@ -5,7 +5,7 @@
 # here. Captures are all files named .pcap, .cap or .pcapng of the packages in PACKAGES that are installed.
 # - A libpcap file of link type Ethernet or raw IP: the status is 0, records= is capinfos' number of packets, and
 #   each identification is that of as many packets as tshark says. tshark reads more layers than dshark does (PPPoE,
-#   L2TP, ..), so of its packets those count whose first IPv4 header stands behind headers that dshark reads; both
+#   L2TP, ..), so of its packets those count whose first IPv4 header follows headers that dshark reads; both
 #   ask for a whole header in the captured bytes.
 # - Every other file is malformed: the status is 2, and nothing is written.
 # It ends with 1 on a difference. It skips with a line, and ends with 0, where a tool or the program is missing.

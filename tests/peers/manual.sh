@@ -7,7 +7,7 @@
 . "$(dirname "$0")/../begin.sh" tests/peers/manual.sh || exit 2
 failed=0
 
-# The commands, as words behind the program's name, and the options.
+# The commands, as words after the program's name, and the options.
 of_help() {
     "$program" --help | grep -oE '^ *dshark [a-z-]+' | awk '{ print "command", $2 }'
     "$program" --help | grep -oE '^ +--[a-z]+ +[A-Z]+ ' | awk '{ print "option", $1 }'
