@@ -37,18 +37,18 @@ static void fill_ipv4(uint8_t *ip, uint32_t length, uint8_t protocol, const char
 // Makes what stands in front of an inner frame of this length, in VXLAN of network 100, or in front of the packet in
 // it, in GRE with key 5. Answers how many bytes of the inner frame are left out.
 static uint32_t make_outer(uint8_t *outer, uint32_t inner, int in_vxlan) {
-    uint8_t *ip = outer + ETH, *inner_at = ip + IPV4;
+    uint8_t *ip = outer + ETH, *after = ip + IPV4;
     memcpy(outer, "\x02\x00\x00\x00\x00\x04\x02\x00\x00\x00\x00\x03\x08\x00", ETH);
     if (in_vxlan) {
         fill_ipv4(ip, IPV4 + UDP + VXLAN + inner, 17, "\x0A\x01\x00\x01\x0A\x01\x00\x02");
-        big16(inner_at, 49152);
-        big16(inner_at + 2, 4789);
-        big16(inner_at + 4, UDP + VXLAN + inner);
-        big16(inner_at + 6, 0);
-        memcpy(inner_at + UDP, "\x08\x00\x00\x00\x00\x00\x64\x00", VXLAN);
+        big16(after, 49152);
+        big16(after + 2, 4789);
+        big16(after + 4, UDP + VXLAN + inner);
+        big16(after + 6, 0);
+        memcpy(after + UDP, "\x08\x00\x00\x00\x00\x00\x64\x00", VXLAN);
     } else {
         fill_ipv4(ip, IPV4 + GRE + inner - ETH, 47, "\x0A\x01\x00\x01\x0A\x01\x00\x02");
-        memcpy(inner_at, "\x20\x00\x08\x00\x00\x00\x00\x05", GRE);
+        memcpy(after, "\x20\x00\x08\x00\x00\x00\x00\x05", GRE);
     }
     big16(ip + 10, checksum(ip));
     return in_vxlan ? 0 : ETH;
