@@ -1,12 +1,23 @@
-# make demo      builds the proved program, and prints the reports of the sample capture and of the sample network
-# make test      the gate: every proof, edit, test and program, then the repository's own checks
-# make install   puts the built program in PREFIX/bin, and its manual page in PREFIX/share/man/man1
+# make demo       builds the proved program, and prints the reports of the sample capture and of the sample network
+# make try        runs the job of the sample network within two minutes and proves nothing: a first look, no more
+# make test       the gate: every proof, edit, test and program, then the repository's own checks
+# make install    puts the built program, its manual page and completions, the documents, the schema of jobs, the
+#                 samples and the tools below PREFIX (and below DESTDIR, where that is set)
+# make uninstall  removes what make install put there
 PREFIX ?= /usr/local
 SAMPLE = samples/one-link.pcap
 NETWORK = samples/network
 PROGRAM = crates/dshark_cli/out/dshark_cli
+TRIED = job.json s1.pcap s2.pcap s3.pcap s4.pcap
 
-.PHONY: demo test install
+# Below PREFIX: the program and its manual page have names of their own, and each other file keeps its name in a folder
+# of dshark.
+ROOT = $(DESTDIR)$(PREFIX)
+SHARE = share/dshark
+DOCUMENTS = share/doc/dshark
+TOOLS = $(filter-out tools/believed,$(wildcard tools/*))
+
+.PHONY: demo try test install uninstall
 
 # `rt run` proves the program and the crates below it, builds it, and runs it with the words after `--`.
 demo:
@@ -14,13 +25,28 @@ demo:
 	cd $(NETWORK) && '$(CURDIR)/$(PROGRAM)' central job.json
 	cd $(NETWORK) && '$(CURDIR)/$(PROGRAM)' central drop.json
 
+# `rt try` runs the program with no proof, in a new folder with a copy of each file that --data names.
+try:
+	@echo 'make try: this run is not proved; make demo proves the program first'
+	cd crates/dshark_cli && timeout 120 rt try $(foreach file,$(TRIED),--data $(file)=../../$(NETWORK)/$(file)) -- central job.json
+
 test:
 	.ci/run
 
 # Run `make demo` first: it builds what is installed.
 install:
 	@test -x $(PROGRAM) || { echo 'make install: run make demo first, which builds the program' >&2; exit 1; }
-	install -d '$(DESTDIR)$(PREFIX)/bin'
-	install -m 755 $(PROGRAM) '$(DESTDIR)$(PREFIX)/bin/dshark'
-	install -d '$(DESTDIR)$(PREFIX)/share/man/man1'
-	install -m 644 docs/dshark.1 '$(DESTDIR)$(PREFIX)/share/man/man1/dshark.1'
+	install -d '$(ROOT)/bin' '$(ROOT)/share/man/man1' '$(ROOT)/$(DOCUMENTS)/docs' '$(ROOT)/$(SHARE)/samples/network' '$(ROOT)/$(SHARE)/tools'
+	install -m 755 $(PROGRAM) '$(ROOT)/bin/dshark'
+	install -m 644 docs/dshark.1 '$(ROOT)/share/man/man1/dshark.1'
+	install -m 644 README.md CHANGELOG.md SECURITY.md '$(ROOT)/$(DOCUMENTS)'
+	install -m 644 $(wildcard docs/*.md) '$(ROOT)/$(DOCUMENTS)/docs'
+	install -m 644 docs/job.schema.json '$(ROOT)/$(SHARE)'
+	install -m 644 $(wildcard samples/*.*) '$(ROOT)/$(SHARE)/samples'
+	install -m 644 $(wildcard $(NETWORK)/*.*) '$(ROOT)/$(SHARE)/$(NETWORK)'
+	install -m 755 $(TOOLS) '$(ROOT)/$(SHARE)/tools'
+
+# These folders hold nothing but what was installed; those of all programs stay.
+uninstall:
+	rm -f '$(ROOT)/bin/dshark' '$(ROOT)/share/man/man1/dshark.1'
+	rm -rf '$(ROOT)/$(DOCUMENTS)' '$(ROOT)/$(SHARE)'
