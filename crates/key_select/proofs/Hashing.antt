@@ -2,7 +2,7 @@ use Rattle.std.proofs.Common.{◌≡◌, ℕ, ◌+◌, ◌≤◌, List, ◌∷�
 use Rattle.std.proofs.lemmas.List.{drop_all}
 use Rattle.std.specs.List.{fold}
 use Rattle.std.specs.Int.{bytes_high_first}
-use Rattle.key_select.specs.Shard.{fnv_step, key_bytes}
+use Rattle.ds_base.specs.Keys.{fnv_step, key_bytes}
 
 pub fold-append : (hash : ℕ) (xs ys : List ℕ) → fold fnv_step hash (xs ++ ys) ≡ fold fnv_step (fold fnv_step hash xs) ys
 fold-append hash [] ys = refl

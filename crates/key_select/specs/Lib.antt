@@ -2,4 +2,3 @@ pub mod Sum
 pub mod Late
 pub mod Fates
 pub mod Tally
-pub mod Shard

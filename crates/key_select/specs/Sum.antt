@@ -1,6 +1,7 @@
 -- The summary of a record, by what a job declares.
-use Rattle.std.specs.Prelude.{ℕ, ◌==◌, Bool, false, not, List, [], ◌∷◌, map, slice_index, if◌then◌else◌, Option, Some, None, option_map, option_and_then}
+use Rattle.std.specs.Prelude.{ℕ, ◌==◌, Bool, false, not, List, [], ◌∷◌, if◌then◌else◌, Option, Some, None, option_map, option_and_then}
 use Rattle.std.specs.Option.{option_or, option_map_or}
+use Rattle.ds_base.specs.Keys.{key_of}
 use Rattle.ds_base.specs.declared.summary.Summary.{Summary}
 use Rattle.field_table.specs.declared.field_ref.FieldRef.{FieldRef}
 use Rattle.header_stack.specs.Layer.{Layer}
@@ -20,10 +21,6 @@ abbrev pub values_of : List (List FieldRef) → List Layer → Option (List ℕ)
 values_of [] layers = Some []
 values_of (alternatives ∷ takes) layers =
     option_and_then (λ n. option_map (λ ns. n ∷ ns) (values_of takes layers)) (first_defined alternatives layers)
-
--- the values of the variables of the key
-abbrev pub key_of : (key vals : List ℕ) → List ℕ
-key_of key vals = map (slice_index vals) key
 
 -- the summary of a record of the capture whose variables have these values
 abbrev pub summary_with : Declared → (capture : ℕ) → Captured → (vals : List ℕ) → Summary

@@ -1,7 +1,7 @@
 ghost use Rattle.std.specs.Prelude.{◌≡◌, ◌<◌, ◌^◌};
 ghost use Rattle.std.specs.List.{fold};
 ghost use Rattle.std.specs.Int.{bytes_high_first};
-ghost use Rattle.key_select.specs.Shard.{fnv_step, shard_of};
+ghost use Rattle.ds_base.specs.Keys.{fnv_step, shard_of};
 
 use ds_base::Nums;
 

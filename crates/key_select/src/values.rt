@@ -2,7 +2,8 @@ ghost use Rattle.std.specs.Prelude.{◌≡◌, ◌≤◌, ◌<◌, ◌+◌, ◌+
 ghost use Rattle.std.specs.List.{All};
 ghost use Rattle.header_stack.specs.Places.{LiesIn, layers_at};
 ghost use Rattle.summary_spec.specs.Declaration.{items_of};
-ghost use Rattle.key_select.specs.Sum.{first_defined, values_of, key_of};
+ghost use Rattle.ds_base.specs.Keys.{key_of};
+ghost use Rattle.key_select.specs.Sum.{first_defined, values_of};
 
 use ds_base::{KeyList, Nums};
 use field_table::FieldRef;

@@ -1,6 +1,6 @@
 use Rattle.std.proofs.Common.{◌≡◌, drop}
 use Rattle.std.specs.List.{fold}
-use Rattle.key_select.specs.Shard.{fnv, fnv_step, key_bytes}
+use Rattle.ds_base.specs.Keys.{fnv, fnv_step, key_bytes}
 use Rattle.key_select.proofs.hash.shard.Given as goal
 
 abbrev pub invariant-loop-i : goal.invariant-loop-i

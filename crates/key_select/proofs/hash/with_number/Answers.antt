@@ -1,5 +1,5 @@
 use Rattle.std.proofs.Common.{◌≡◌, length, ap, ◌∙◌, arith, fold}
-use Rattle.key_select.specs.Shard.{fnv_step}
+use Rattle.ds_base.specs.Keys.{fnv_step}
 use Rattle.key_select.proofs.Hashing.{all_hashed}
 use Rattle.key_select.proofs.hash.with_number.Goals as goal
 

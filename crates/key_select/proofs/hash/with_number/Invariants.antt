@@ -1,6 +1,6 @@
 use Rattle.std.proofs.Common.{◌≡◌, drop}
 use Rattle.std.specs.List.{fold}
-use Rattle.key_select.specs.Shard.{fnv_step}
+use Rattle.ds_base.specs.Keys.{fnv_step}
 use Rattle.key_select.proofs.hash.with_number.Given as goal
 
 abbrev pub invariant-loop-byte : goal.invariant-loop-byte

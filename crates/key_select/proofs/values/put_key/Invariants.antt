@@ -1,5 +1,5 @@
 use Rattle.std.proofs.Common.{◌≡◌, ◌++◌, drop, length}
-use Rattle.key_select.specs.Sum.{key_of}
+use Rattle.ds_base.specs.Keys.{key_of}
 use Rattle.key_select.proofs.values.put_key.Given as goal
 
 abbrev pub invariant-loop-i : goal.invariant-loop-i

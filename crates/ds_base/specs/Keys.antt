@@ -1,7 +1,11 @@
--- The number of a key's shard.
-use Rattle.std.specs.Prelude.{ℕ, ◌*◌, ◌%◌, ◌^◌, List, bit_xor}
+-- The key of the values of a packet, and the number of the key's shard.
+use Rattle.std.specs.Prelude.{ℕ, ◌*◌, ◌%◌, ◌^◌, List, map, slice_index, bit_xor}
 use Rattle.std.specs.List.{fold, flat_map}
 use Rattle.std.specs.Int.{bytes_high_first}
+
+-- the values of the variables of the key
+abbrev pub key_of : (key vals : List ℕ) → List ℕ
+key_of key vals = map (slice_index vals) key
 
 -- one step of FNV-1a of 64 bits, the hash of Fowler, Noll and Vo
 abbrev pub fnv_step : (hash byte : ℕ) → ℕ
