@@ -1,2 +1,3 @@
-mod Moves
-mod Finds
+pub mod Moves
+pub mod Finds
+pub mod Fronts

@@ -9,6 +9,7 @@ mod fakes;
 mod folder;
 mod gate;
 mod item_list;
+mod laws;
 mod memory;
 mod nums;
 mod pipe;
@@ -30,6 +31,7 @@ pub use fakes::{
 pub use folder::{Folder, NoFile};
 pub use gate::{Gate, OpenGate};
 pub use item_list::ItemList;
+pub use laws::{parted, same_front};
 pub use memory::OutOfMemory;
 pub use nums::Nums;
 pub use pipe::{PipeRx, PipeTx};
