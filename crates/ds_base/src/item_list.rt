@@ -5,7 +5,7 @@ use std::alloc::Global;
 use std::marker::Model;
 
 /// A list that grows at its end. Contracts see its `items`, and as `spare` how many more it takes
-/// without asking for memory.
+/// without asking for memory. A list of items that may not be dropped ends by `destroy_empty`.
 #[derive(Drop)]
 pub struct ItemList<T> {
     items: Vec<T>,
@@ -104,5 +104,12 @@ impl<T> ItemList<T> {
             Ok(()) => Ok(()),
             Err(_) => Err(OutOfMemory),
         }
+    }
+
+    /// The end of a list without items, also where an item may not be dropped.
+    pub fn destroy_empty(self)
+        requires { self.items ≡ [] }
+    {
+        self.items.destroy_empty();
     }
 }

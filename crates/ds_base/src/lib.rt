@@ -55,5 +55,8 @@ pub type GroupList = ItemList<Group>;
 /// One row of counts for each capture.
 pub type CountsList = ItemList<Counts>;
 
+/// Opened sources. They may not be dropped, so each is taken out before the list ends.
+pub type SourceList<S> = ItemList<S>;
+
 /// Numbers, such as those of variables.
 pub type KeyList = ItemList<u32>;

@@ -1,7 +1,8 @@
 ghost use Rattle.std.specs.Fmt.{decimal};
-ghost use Rattle.std.specs.Prelude.{◌≡◌, ◌==◌, ◌+◌, ◌<◌, [], ◌++◌, length, OnOk, OnErr, IfErr, encode_utf8};
+ghost use Rattle.std.specs.Prelude.{◌≡◌, ◌==◌, ◌+◌, ◌<◌, [], ◌++◌, length, slice_get, OnOk, OnErr, IfErr, encode_utf8};
 
 use crate::OutOfMemory;
+use itoa::Buffer;
 use std::alloc::Global;
 use std::marker::Model;
 
@@ -46,6 +47,14 @@ impl Text {
         self.text.is_empty()
     }
 
+    /// The byte at `i`, counted from 0.
+    pub fn get(&self, i: u64) -> &u8
+        requires { i < length self.now.items }
+        ensures { slice_get self.now.items i ≡ Some result.now }
+    {
+        &self.text.as_bytes()[i as usize]
+    }
+
     /// The whole text.
     pub fn as_str(&self) -> &str
         ensures { result.now ≡ self.now.items }
@@ -78,18 +87,17 @@ impl Text {
         }
     }
 
-    /// Puts a number in decimal at the end. It is refused for want of memory alone; then some of its
-    /// digits may stand at the end.
+    /// Puts a number in decimal at the end. It is refused for want of memory alone; then the text is
+    /// as it was.
     pub fn push_decimal(&mut self, n: u128) -> Result<(), OutOfMemory>
         ensures pushed { OnOk result (self.new.items ≡ self.old.items ++ decimal n) }
+        ensures refused { OnErr result (self.new.items ≡ self.old.items) }
+        ensures full { OnErr result (self.old.spare < length (decimal n)) }
     {
-        let written = match u64::try_from(n) {
-            Ok(small) => write!(self.text, "{small}"),
-            Err(_) => write!(self.text, "{n}"),
-        };
-        match written {
-            Ok(()) => Ok(()),
-            Err(_) => Err(OutOfMemory),
+        let mut digits = Buffer::new();
+        match u64::try_from(n) {
+            Ok(small) => self.push_str(digits.format(small)),
+            Err(_) => self.push_str(digits.format(n)),
         }
     }
 }
