@@ -38,7 +38,7 @@ pub use pipe::{PipeRx, PipeTx};
 pub use profile_row::ProfileRow;
 pub use sink::Sink;
 pub use source::{Failed, Source};
-pub use stamp::Stamp;
+pub use stamp::{HOUR, Stamp};
 pub use summary::{Group, Summary};
 pub use text::Text;
 pub use verdict::{Answer, Verdict};

@@ -1,3 +1,6 @@
+/// An hour, in nanoseconds: no window and no skew is longer.
+pub const HOUR: u64 = 3_600_000_000_000;
+
 /// Where and when a record was captured. Stamps are ordered by time, then capture, then number.
 #[derive(Clone, Copy, Debug, PartialEq, Eq, PartialOrd, Ord)]
 pub struct Stamp {
