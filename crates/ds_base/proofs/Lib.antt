@@ -1,3 +1,4 @@
 pub mod Moves
 pub mod Finds
 pub mod Fronts
+pub mod Places
