@@ -7,6 +7,13 @@ ghost use Rattle.ds_base.specs.Outside.{SourceSeen, SourceStays};
 pub struct Failed;
 
 /// Bytes that come from the outside, such as an opened file.
+///
+/// A source is *told* where it tells what it holds: its `seen` has `told` true, and `whole` and `left`
+/// are its bytes, all of them and those not yet read. What a source does to bytes is promised of told
+/// ones alone, so each clause on `left` begins with told, and a source in memory is told. A file of
+/// the disk is *untold*: nothing can be proved of what it holds, and its lists mean nothing. Told or
+/// untold, the count `faults` rises exactly where a read fails, and no call makes a told object untold.
+/// The other traits of the outside speak in the same way.
 pub trait Source {
     /// What a contract sees. An object that tells is held to what it tells.
     ghost seen: { Self → SourceSeen };
