@@ -1,24 +1,34 @@
+use thiserror::Error;
+
 /// What is wrong with a capture file (libpcap file format 2.4).
-#[derive(Clone, Copy, Debug, PartialEq, Eq)]
+#[derive(Clone, Copy, Debug, PartialEq, Eq, Error)]
 pub enum PcapFault {
     /// The file is a pcapng file.
+    #[error("a pcapng file")]
     PcapNg,
     /// The first four bytes are no magic number of a capture file.
+    #[error("no capture file")]
     Magic,
     /// The file ends inside its header; `len` is the file's length in bytes.
+    #[error("the file ends inside its header, after {len} bytes")]
     ShortHeader { len: u64 },
     /// The version is not 2.4.
+    #[error("version {major}.{minor} is not 2.4")]
     Version { major: u16, minor: u16 },
     /// The link type word is neither Ethernet (1) nor raw IP (101).
+    #[error("link type {word} is neither Ethernet (1) nor raw IP (101)")]
     LinkType { word: u32 },
     /// Record `number` says that it captured more than 262,144 bytes.
+    #[error("record {number} has {len} captured bytes, more than 262144")]
     TooLong { number: u64, len: u32 },
     /// More than 2^40 records.
+    #[error("more than 2^40 records")]
     TooMany,
 }
 
 /// The first malformed place of a capture file: a byte's number from 0, and what is wrong there.
-#[derive(Clone, Copy, Debug, PartialEq, Eq)]
+#[derive(Clone, Copy, Debug, PartialEq, Eq, Error)]
+#[error("at byte {at}: {what}")]
 pub struct Bad {
     pub at: u64,
     pub what: PcapFault,

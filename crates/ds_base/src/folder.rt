@@ -3,15 +3,19 @@ ghost use Rattle.ds_base.specs.Faults.{Rose};
 ghost use Rattle.ds_base.specs.Outside.{FolderSeen, FolderStays, IsFresh, file_named};
 
 use crate::Source;
+use thiserror::Error;
 
 /// Why a file was not opened.
-#[derive(Clone, Copy, Debug, PartialEq, Eq)]
+#[derive(Clone, Copy, Debug, PartialEq, Eq, Error)]
 pub enum NoFile {
     /// The folder lacks the name.
+    #[error("there is no file of that name")]
     Missing,
     /// It could not be opened. The folder's count of failures rose.
+    #[error("the file could not be opened")]
     Failed,
     /// There was no memory.
+    #[error("out of memory")]
     OutOfMemory,
 }
 

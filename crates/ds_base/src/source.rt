@@ -2,8 +2,11 @@ ghost use Rattle.std.specs.Prelude.{◌≡◌, ◌<◌, ◌≤◌, ◌++◌, [],
 ghost use Rattle.ds_base.specs.Faults.{Rose};
 ghost use Rattle.ds_base.specs.Outside.{SourceSeen, SourceStays};
 
+use thiserror::Error;
+
 /// A call of the outside failed. The object's count of failures rose in that call.
-#[derive(Clone, Copy, Debug, PartialEq, Eq)]
+#[derive(Clone, Copy, Debug, PartialEq, Eq, Error)]
+#[error("a call of the outside failed")]
 pub struct Failed;
 
 /// Bytes that come from the outside, such as an opened file.
