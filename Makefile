@@ -15,7 +15,7 @@ TRIED = job.json s1.pcap s2.pcap s3.pcap s4.pcap
 ROOT = $(DESTDIR)$(PREFIX)
 SHARE = share/dshark
 DOCUMENTS = share/doc/dshark
-TOOLS = $(filter-out tools/believed,$(wildcard tools/*))
+TOOLS = tools/plot-report tools/report tools/explain
 
 .PHONY: demo try test install uninstall
 
@@ -39,12 +39,13 @@ install:
 	install -d '$(ROOT)/bin' '$(ROOT)/share/man/man1' '$(ROOT)/$(DOCUMENTS)/docs' '$(ROOT)/$(SHARE)/samples/network' '$(ROOT)/$(SHARE)/tools'
 	install -m 755 $(PROGRAM) '$(ROOT)/bin/dshark'
 	install -m 644 docs/dshark.1 '$(ROOT)/share/man/man1/dshark.1'
-	install -m 644 README.md CHANGELOG.md SECURITY.md '$(ROOT)/$(DOCUMENTS)'
+	install -m 644 README.md CHANGELOG.md CONTRIBUTING.md SECURITY.md '$(ROOT)/$(DOCUMENTS)'
 	install -m 644 $(wildcard docs/*.md) '$(ROOT)/$(DOCUMENTS)/docs'
 	install -m 644 docs/job.schema.json '$(ROOT)/$(SHARE)'
 	install -m 644 $(wildcard samples/*.*) '$(ROOT)/$(SHARE)/samples'
 	install -m 644 $(wildcard $(NETWORK)/*.*) '$(ROOT)/$(SHARE)/$(NETWORK)'
 	install -m 755 $(TOOLS) '$(ROOT)/$(SHARE)/tools'
+	install -m 644 $(wildcard tools/*.py) '$(ROOT)/$(SHARE)/tools'
 
 # These folders hold nothing but what was installed; those of all programs stay.
 uninstall:

@@ -34,9 +34,9 @@ expected() {
     echo bin/dshark
     echo share/man/man1/dshark.1
     echo share/dshark/job.schema.json
-    printf 'share/doc/dshark/%s\n' README.md CHANGELOG.md SECURITY.md docs/*.md
+    printf 'share/doc/dshark/%s\n' README.md CHANGELOG.md CONTRIBUTING.md SECURITY.md docs/*.md
     find samples -type f | sed 's|^|share/dshark/|'
-    find tools -maxdepth 1 -type f ! -name believed | sed 's|^|share/dshark/|'
+    find tools -maxdepth 1 -type f ! -name believed ! -name make-completions | sed 's|^|share/dshark/|'
 }
 is 'what is installed' "$(expected | sort)" "$(cd "$room/root/opt/a" && find . -type f | sed 's|^\./||' | sort)"
 is 'the program' dshark "$("$room/root/opt/a/bin/dshark")"
