@@ -15,6 +15,7 @@ TRIED = job.json s1.pcap s2.pcap s3.pcap s4.pcap
 ROOT = $(DESTDIR)$(PREFIX)
 SHARE = share/dshark
 DOCUMENTS = share/doc/dshark
+COMPLETIONS = share/bash-completion/completions share/zsh/site-functions share/fish/vendor_completions.d
 TOOLS = tools/plot-report tools/report tools/explain
 
 .PHONY: demo try test install uninstall
@@ -36,9 +37,13 @@ test:
 # Run `make demo` first: it builds what is installed.
 install:
 	@test -x $(PROGRAM) || { echo 'make install: run make demo first, which builds the program' >&2; exit 1; }
+	install -d $(foreach folder,$(COMPLETIONS),'$(ROOT)/$(folder)')
 	install -d '$(ROOT)/bin' '$(ROOT)/share/man/man1' '$(ROOT)/$(DOCUMENTS)/docs' '$(ROOT)/$(SHARE)/samples/network' '$(ROOT)/$(SHARE)/tools'
 	install -m 755 $(PROGRAM) '$(ROOT)/bin/dshark'
 	install -m 644 docs/dshark.1 '$(ROOT)/share/man/man1/dshark.1'
+	install -m 644 completions/dshark.bash '$(ROOT)/$(word 1,$(COMPLETIONS))/dshark'
+	install -m 644 completions/_dshark '$(ROOT)/$(word 2,$(COMPLETIONS))'
+	install -m 644 completions/dshark.fish '$(ROOT)/$(word 3,$(COMPLETIONS))'
 	install -m 644 README.md CHANGELOG.md CONTRIBUTING.md SECURITY.md '$(ROOT)/$(DOCUMENTS)'
 	install -m 644 $(wildcard docs/*.md) '$(ROOT)/$(DOCUMENTS)/docs'
 	install -m 644 docs/job.schema.json '$(ROOT)/$(SHARE)'
@@ -49,5 +54,5 @@ install:
 
 # These folders hold nothing but what was installed; those of all programs stay.
 uninstall:
-	rm -f '$(ROOT)/bin/dshark' '$(ROOT)/share/man/man1/dshark.1'
+	rm -f '$(ROOT)/bin/dshark' '$(ROOT)/share/man/man1/dshark.1' $(foreach folder,$(COMPLETIONS),$(foreach name,dshark _dshark dshark.fish,'$(ROOT)/$(folder)/$(name)'))
 	rm -rf '$(ROOT)/$(DOCUMENTS)' '$(ROOT)/$(SHARE)'

@@ -33,6 +33,9 @@ is 'make install' "0 $(:)" "$? $(cat "$room/complaints")"
 expected() {
     echo bin/dshark
     echo share/man/man1/dshark.1
+    echo share/bash-completion/completions/dshark
+    echo share/zsh/site-functions/_dshark
+    echo share/fish/vendor_completions.d/dshark.fish
     echo share/dshark/job.schema.json
     printf 'share/doc/dshark/%s\n' README.md CHANGELOG.md CONTRIBUTING.md SECURITY.md docs/*.md
     find samples -type f | sed 's|^|share/dshark/|'
