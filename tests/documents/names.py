@@ -7,12 +7,13 @@ In docs/*.md and the *.md files at the top it looks at
   word of the examples in the same document;
 - each path: of a file or folder of the repository, or within a crate that the same line names;
 - names in backquotes before 'in PATH' or '(PATH)': each stands in that file;
-- the tables of clauses and of crates: they have all of them.
+- the tables of clauses, of crates and of fields: they have all of them, and docs/job.schema.json has all fields.
 
 allowed.txt, beside this program, has the words of others (Rust, the kit, the system), each group with its reason.
 """
 
 import glob
+import json
 import os
 import re
 import sys
@@ -130,6 +131,47 @@ def check_tables(repository, fault):
     return len(clauses | told) + 2 * len(repository.crates)
 
 
+def fields_in_code():
+    """The rows of the table of fields by kind: name, first bit (or what says where it is), number of bits, form."""
+    text = read("crates/field_table/src/table.rt")
+    rows = {table: re.findall(r'row!\("(\w+)", (?:At\()?(\w+)\)?, (\d+), (\w+)\)', body)
+            for table, body in re.findall(r"static (\w+): [^=]* = \[(.*?)\n\];", text, re.S)}
+    kinds = dict(re.findall(r'Kind::(\w+) => "(\w+)"', read("crates/field_table/src/names.rt")))
+    arms = re.findall(r"((?:Kind::\w+ \| )*Kind::\w+) => &(\w+)", text)
+    return {kinds[kind]: rows[table] for kind_words, table in arms for kind in re.findall(r"Kind::(\w+)", kind_words)}
+
+
+def check_fields(fault):
+    """The table of fields in docs/FORMATS.md, and the fields of docs/job.schema.json, are those of the code."""
+    code = fields_in_code()
+    told = {}
+    section = read("docs/FORMATS.md").split("## Fields")[1].split("\n## ")[0]
+    for kinds, cell in re.findall(r"^\| ([a-z0-9, ]+) \| (\w+(?: \(\w+\))?: .*) \|$", section, re.M):
+        rows = []
+        for name, form, rest in re.findall(r"(\w+)(?: \((\w+)\))?: ([^;]*)", cell):
+            plain = re.fullmatch(r"(\d+), (\d+)(?:, (\w+))?", rest)
+            bits = re.match(r"the (\d+) bits", rest)
+            if plain:
+                rows.append((name, plain.group(1), plain.group(2), plain.group(3) or "Dec"))
+            elif bits:
+                rows.append((name, None, bits.group(1), form or "Dec"))
+        told.update({kind: rows for kind in kinds.split(", ") if rows})
+    schema = {}
+    for row in json.loads(read("docs/job.schema.json"))["$defs"]["field"]["allOf"]:
+        kind = row["if"]["pattern"].strip("^\\[")
+        names = row["then"]["pattern"].strip("\\.($)").split("|")
+        schema.update({word: names for word in ([kind[:-2], kind[:-1]] if kind.endswith("?") else [kind])})
+    for kind, rows in code.items():
+        known = [(name, at if at.isdigit() else None, bits, form) for name, at, bits, form in rows]
+        if told.get(kind) != known:
+            fault(f"docs/FORMATS.md: the fields of {kind} are not those of the code")
+        if schema.get(kind) != [name for name, _, _, _ in rows]:
+            fault(f"docs/job.schema.json: the fields of {kind} are not those of the code")
+    for kind in (set(told) | set(schema)) - set(code):
+        fault(f"docs/FORMATS.md or docs/job.schema.json: no kind {kind} in the code")
+    return 2 * len(code)
+
+
 def main():
     repository = Repository()
     allowed = set()
@@ -142,6 +184,7 @@ def main():
         faults += document.faults
         looked += document.looked
     looked += check_tables(repository, faults.append)
+    looked += check_fields(faults.append)
     for fault in faults:
         print("FAILED", fault)
     print(f"tests/documents/names.sh: {looked - len(faults)} passed, {len(faults)} failed")
