@@ -1,0 +1,29 @@
+use Rattle.std.proofs.Common.{◌∙◌, List, ℕ, sym, ap, subst}
+use Rattle.ds_base.specs.Gain.{GainsPrefix}
+use Rattle.pcap_reader.specs.Good.{good}
+use Rattle.stack_lines.specs.Printing.{lines_by, report_by}
+use Rattle.stack_lines.proofs.Begun.{begun_report, whole_report}
+use Rattle.stack_lines.proofs.printing.print_lines.Goals as goal
+
+pub returns-in_err-print_records-clause-prefix : goal.returns-in_err-print_records-clause-prefix
+returns-in_err-print_records-clause-prefix g c told out = begun_report c.args.printer.now.asking _ _ (g.S.Source.seen c.args.source.now).whole (c.print_records.ensures.prefix told out)
+
+pub returns-in_err-end-in-Ok-clause-prefix : goal.returns-in_err-end-in-Ok-clause-prefix
+returns-in_err-end-in-Ok-clause-prefix g c told out =
+    let read = c.in_ok-print_records.ensures.ends in
+    let asking = c.args.printer.now.asking in
+    let start = (g.O.Sink.seen c.args.out.now).written in
+    let whole = c.in-Ok.ensures.whole (g.S.Source.seen c.print_records.new.source) read.given (good read.given).records read.read in
+    let P : List ℕ → Type 0 = λ text. GainsPrefix start (g.O.Sink.seen c.end.new.out).written text in
+    subst P (whole_report asking read.given c.in-Ok.tail.cut whole.0 whole.2 ∙ ap (λ bytes. report_by asking bytes) (sym (read.whole told)))
+    (c.end.ensures.prefix start (lines_by asking (good read.given).records) read.text out)
+
+pub returns-in_ok-end-in-Ok-clause-prefix : goal.returns-in_ok-end-in-Ok-clause-prefix
+returns-in_ok-end-in-Ok-clause-prefix g c told out =
+    let read = c.in_ok-print_records.ensures.ends in
+    let asking = c.args.printer.now.asking in
+    let start = (g.O.Sink.seen c.args.out.now).written in
+    let whole = c.in-Ok.ensures.whole (g.S.Source.seen c.print_records.new.source) read.given (good read.given).records read.read in
+    let P : List ℕ → Type 0 = λ text. GainsPrefix start (g.O.Sink.seen c.end.new.out).written text in
+    subst P (whole_report asking read.given c.in-Ok.tail.cut whole.0 whole.2 ∙ ap (λ bytes. report_by asking bytes) (sym (read.whole told)))
+    (c.end.ensures.prefix start (lines_by asking (good read.given).records) read.text out)
