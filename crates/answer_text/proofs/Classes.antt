@@ -5,7 +5,7 @@ use Rattle.answer_text.specs.Pieces.{behind, joined}
 use Rattle.answer_text.specs.Lines.{class_text, class_texts, separator_of}
 use Rattle.answer_text.proofs.Lists.{drop_from}
 
--- what is still to be put, behind nothing or behind other classes
+-- what is still to be put, after nothing or after other classes
 abbrev pub texts_behind : Bool → List (List ℕ) → List ℕ
 texts_behind true texts = joined texts
 texts_behind false texts = flat_map behind texts

@@ -9,7 +9,7 @@ drop_from [] i x at = cc
 drop_from (y ∷ ys) zero x at = let e : y ≡ x = cc in ap (λ z. z ∷ ys) e
 drop_from (y ∷ ys) (suc i) x at = drop_from ys i x at ∙ rw (add-one, add-one) refl
 
--- what was put, one piece more, and what is left behind it
+-- what was put, one piece more, and what is left after it
 pub one_more_piece : {A : Type 0} (f : A → List ℕ) (xs : List A) (i : ℕ) (x : A) (before after whole : List ℕ)
     → slice_get xs i ≡ Some x → after ≡ before ++ f x → before ++ flat_map f (drop i xs) ≡ whole
     → after ++ flat_map f (drop (i + 1) xs) ≡ whole

@@ -4,11 +4,11 @@ use Rattle.std.specs.Fmt.{decimal}
 use Rattle.std.specs.List.{flat_map}
 use Rattle.ds_base.specs.Items.{Items}
 
--- a number behind its label
+-- a number after its label
 abbrev pub labelled : List ℕ → ℕ → List ℕ
 labelled label n = label ++ decimal n
 
--- a text behind others
+-- a text after others
 abbrev pub behind : List ℕ → List ℕ
 behind text = codes "," ++ text
 

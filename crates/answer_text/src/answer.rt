@@ -1,3 +1,5 @@
+//! The answer line of a group.
+
 ghost use Rattle.std.specs.Prelude.{◌≡◌, ◌++◌, ◌<◌, length, IfOk, OnOk};
 ghost use Rattle.answer_text.specs.Lines.{answer_text, first_text, key_text, IsNamedIn};
 
@@ -46,7 +48,7 @@ fn push_first(text: &mut Text, captures: &NameList, first: &Stamp) -> Result<(),
     push_labelled(text, " ", first.number)
 }
 
-/// Puts the key of a group behind its label.
+/// Puts the key of a group after its label.
 fn push_key(text: &mut Text, key: &Nums) -> Result<(), OutOfMemory>
     ensures { OnOk result (text.new.items ≡ text.old.items ++ key_text key.now) }
 {

@@ -1,3 +1,5 @@
+//! The line of a capture, and the last line.
+
 ghost use Rattle.std.specs.Prelude.{◌≡◌, ◌++◌, ◌<◌, length, IfOk, OnOk};
 ghost use Rattle.answer_text.specs.Lines.{capture_text, end_text, ending_of};
 

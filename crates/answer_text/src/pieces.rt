@@ -1,10 +1,12 @@
+//! What the lines are made of: numbers and names after their labels.
+
 ghost use Rattle.std.specs.Prelude.{◌≡◌, ◌++◌, ◌<◌, length, map, OnOk};
 ghost use Rattle.std.specs.Fmt.{decimal};
 ghost use Rattle.answer_text.specs.Pieces.{labelled, behind, joined, name_of};
 
 use ds_base::{NameList, Nums, OutOfMemory, Text};
 
-/// Puts a number behind its label.
+/// Puts a number after its label.
 pub fn push_labelled(text: &mut Text, label: &str, n: u64) -> Result<(), OutOfMemory>
     ensures { OnOk result (text.new.items ≡ text.old.items ++ labelled label.now n) }
 {
@@ -12,7 +14,7 @@ pub fn push_labelled(text: &mut Text, label: &str, n: u64) -> Result<(), OutOfMe
     text.push_decimal(u128::from(n))
 }
 
-/// Puts a number, which may be a wide one, behind its label.
+/// Puts a number, which may be a wide one, after its label.
 pub fn push_wide(text: &mut Text, label: &str, n: u128) -> Result<(), OutOfMemory>
     ensures { OnOk result (text.new.items ≡ text.old.items ++ labelled label.now n) }
 {
@@ -20,7 +22,7 @@ pub fn push_wide(text: &mut Text, label: &str, n: u128) -> Result<(), OutOfMemor
     text.push_decimal(n)
 }
 
-/// Puts the name of a capture behind its label.
+/// Puts the name of a capture after its label.
 pub fn push_named(
     text: &mut Text,
     label: &str,
@@ -48,7 +50,7 @@ pub fn push_numbers(text: &mut Text, numbers: &Nums) -> Result<(), OutOfMemory>
     Ok(())
 }
 
-/// Puts a number behind others.
+/// Puts a number after others.
 fn push_further(text: &mut Text, n: u128) -> Result<(), OutOfMemory>
     ensures { OnOk result (text.new.items ≡ text.old.items ++ behind (decimal n)) }
 {

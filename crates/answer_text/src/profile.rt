@@ -1,3 +1,5 @@
+//! The line of the delays between two capture points.
+
 ghost use Rattle.std.specs.Prelude.{◌≡◌, ◌++◌, ◌<◌, length, IfOk, OnOk};
 ghost use Rattle.std.specs.Fmt.{decimal};
 ghost use Rattle.answer_text.specs.Pieces.{joined};
@@ -59,7 +61,7 @@ fn push_classes(text: &mut Text, classes: &[u64; 64]) -> Result<(), OutOfMemory>
     Ok(())
 }
 
-/// Puts a class and its number, behind a comma where it is not the first.
+/// Puts a class and its number, after a comma where it is not the first.
 fn push_class(text: &mut Text, is_first: bool, class: u32, number: u64) -> Result<(), OutOfMemory>
     ensures { OnOk result (text.new.items ≡ text.old.items ++ (separator_of is_first ++ class_text class number)) }
 {

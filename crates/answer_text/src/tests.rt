@@ -1,3 +1,5 @@
+//! The lines of the worked report.
+
 ghost use Rattle.std.specs.Prelude.{IsTrue};
 ghost use Rattle.answer_text.specs.Lines.{IsNamedIn};
 

@@ -1,3 +1,5 @@
+//! The words of a verdict.
+
 ghost use Rattle.std.specs.Prelude.{◌≡◌, ◌++◌, length, OnOk};
 ghost use Rattle.answer_text.specs.Lines.{verdict_text, IsNamedIn};
 

@@ -1,7 +1,7 @@
 use Rattle.std.proofs.Common.{ℕ, List, ◌≡◌, ◌≤◌, ◌+◌, ◌-◌, ◌++◌, length, take, drop, sym, ap, ◌∙◌, arith, length-drop}
 use Rattle.std.proofs.lemmas.List.{take-append-drop, drop-drop, take_at, length-take-le}
 
--- the bytes from place g on are those that were moved to the front, and those behind them
+-- the bytes from place g on are those that were moved to the front, and those after them
 pub moved : (bs front rest : List ℕ) (g n : ℕ) → g + n ≤ length bs → front ≡ take (g + n - g) (drop g bs)
     → drop g bs ≡ take n (front ++ rest) ++ drop (g + n) bs
 moved bs front rest g n within is =

@@ -1,3 +1,4 @@
+-- Groups, as contracts see them.
 use Rattle.std.specs.Prelude.{ℕ, List}
 use Rattle.ds_base.specs.declared.summary.Summary.{Summary}
 use Rattle.ds_base.specs.declared.summary.Group.{Group}

@@ -1,3 +1,4 @@
+-- Counts of failures.
 use Rattle.std.specs.Prelude.{ℕ, ◌≡◌, ◌<◌, ◌^◌, ◌-◌, ◌⊎◌}
 
 -- the count of failures rose, or stands at the end of its type

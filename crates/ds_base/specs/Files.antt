@@ -1,3 +1,4 @@
+-- Files in memory, as contracts see them.
 use Rattle.ds_base.specs.Outside.{NamedBytes}
 use Rattle.ds_base.specs.declared.fakes.NamedFile.{NamedFile}
 

@@ -1,3 +1,4 @@
+-- What a text or a sink gained, as a part of what is due.
 use Rattle.std.specs.Prelude.{ℕ, List, ◌≡◌, ◌++◌}
 
 -- what was gained, and the rest of what is due: together they are what is due

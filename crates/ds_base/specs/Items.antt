@@ -1,3 +1,4 @@
+-- Lists, as contracts see them.
 use Rattle.std.specs.Prelude.{ℕ, List}
 
 -- what a contract sees of a list: its items, and how many more it takes without asking for memory

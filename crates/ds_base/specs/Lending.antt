@@ -1,3 +1,4 @@
+-- What a list lends for writing.
 use Rattle.std.specs.Prelude.{ℕ, slice_set}
 use Rattle.std.specs.Borrow.{Lends, Fml, RattleType, MutBor}
 use Rattle.ds_base.specs.Items.{Items}

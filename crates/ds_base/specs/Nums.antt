@@ -1,9 +1,10 @@
+-- How a short list of numbers lies in sixteen slots.
 use Rattle.std.specs.Prelude.{ℕ, List, ◌≡◌, ◌≤◌, ◌-◌, ◌++◌, take, length, replicate}
 use Rattle.std.proofs.Common.{sym, ap, arith, ◌∙◌}
 use Rattle.std.proofs.lemmas.List.{length-take-le}
 use Rattle.ds_base.specs.declared.nums.Nums.TheInside.{Inside}
 
--- sixteen slots: the first `len` of any value, and 0 behind
+-- sixteen slots: the first `len` of any value, and 0 after
 pub record IsPadded (len : ℕ) (slots : List ℕ) : Type 0 where
   pub few : len ≤ 16
   pub width : length slots ≡ 16

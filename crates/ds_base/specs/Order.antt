@@ -1,3 +1,4 @@
+-- The order of stamps.
 use Rattle.std.specs.Prelude.{List, [], ◌∷◌, ◌≡◌, ◌<◌, ◌⊎◌}
 use Rattle.ds_base.specs.declared.stamp.Stamp.{Stamp}
 use Rattle.ds_base.specs.declared.summary.Summary.{Summary}

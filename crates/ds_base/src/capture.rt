@@ -1,3 +1,5 @@
+//! What is known of a capture file: its faults, its end, and how its records fared.
+
 use thiserror::Error;
 
 /// What is wrong with a capture file (libpcap file format 2.4).

@@ -1,3 +1,5 @@
+//! The trait of what chooses turns, and one that goes by a list.
+
 ghost use Rattle.std.specs.Prelude.{◌≡◌, ◌++◌, [], option_to_list, IsNone, ◌↔◌};
 
 use std::marker::Model;

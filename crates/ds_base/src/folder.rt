@@ -1,3 +1,5 @@
+//! The trait of files that are opened by name.
+
 ghost use Rattle.std.specs.Prelude.{◌≡◌, ◌≢◌, ◌⊎◌, IsTrue, IfOk, IsErrOf, Some, None, Err};
 ghost use Rattle.ds_base.specs.Faults.{Rose};
 ghost use Rattle.ds_base.specs.Outside.{FolderSeen, FolderStays, IsFresh, file_named};

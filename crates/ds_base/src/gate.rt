@@ -1,3 +1,5 @@
+//! The trait of what workers pass at the beginning of a phase.
+
 /// What each worker passes once at the beginning of a phase.
 pub trait Gate {
     /// Lets a worker pass. It returns for every worker.

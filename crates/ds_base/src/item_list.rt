@@ -1,3 +1,5 @@
+//! The list from which all lists of the product are made.
+
 ghost use Rattle.std.specs.Prelude.{◌≡◌, ◌==◌, ◌+◌, ◌≤◌, ◌<◌, [], ◌∷◌, ◌++◌, length, slice_get, option_to_list, OnOk, OnErr, IfErr, IsNone, ◌↔◌};
 
 use crate::OutOfMemory;

@@ -1,3 +1,5 @@
+//! Want of memory.
+
 use thiserror::Error;
 
 /// Memory was asked for and there was none. No contract says when it comes.

@@ -1,3 +1,5 @@
+//! Short lists of wide numbers, such as keys and values.
+
 ghost use Rattle.std.specs.Prelude.{◌≡◌, ◌<◌, ◌≤◌, ◌++◌, [], ◌∷◌, length, slice_get, Some};
 
 use std::marker::Model;
@@ -18,7 +20,7 @@ impl Model for Nums {
 
     ghost use Rattle.ds_base.specs.Nums.{IsPadded, restored};
 
-    // The slots behind the numbers are 0, so that equal lists are equal values.
+    // The slots after the numbers are 0, so that equal lists are equal values.
     ghost invariant = { λ nums. IsPadded nums.len nums.slots };
 
     ghost inverse = { λ numbers. record { len = length numbers; slots = numbers ++ replicate (16 - length numbers) 0 } };

@@ -1,3 +1,5 @@
+//! One row of the delays between capture points.
+
 /// The delays between two capture points: those of neighbouring members of groups, the earlier one
 /// seen at `from` and the later one at `to`, in nanoseconds.
 #[derive(Clone, Copy, Debug, PartialEq, Eq)]

@@ -1,3 +1,5 @@
+//! The trait of what is read from the outside.
+
 ghost use Rattle.std.specs.Prelude.{◌≡◌, ◌<◌, ◌≤◌, ◌++◌, [], length, take, IsTrue, IfOk, OnErr, MatchResult, Ok};
 ghost use Rattle.ds_base.specs.Faults.{Rose};
 ghost use Rattle.ds_base.specs.Outside.{SourceSeen, SourceStays};

@@ -1,3 +1,5 @@
+//! When and where a record was captured.
+
 /// An hour, in nanoseconds: no window and no skew is longer.
 pub const HOUR: u64 = 3_600_000_000_000;
 

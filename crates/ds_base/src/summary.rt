@@ -1,3 +1,5 @@
+//! Summaries of packets, and groups of them.
+
 use crate::{ItemList, Nums, Stamp};
 
 /// What is kept of one captured packet: where and when, its key, and the value of each variable.

@@ -1,3 +1,5 @@
+//! The happy path of each call, and the failures of the objects in memory.
+
 use crate::{
     Choice, Chooser, Failed, FileList, Folder, Gate, ItemList, KeyList, ListChooser, MemFolder,
     MemSink, MemSource, NamedFile, NoFile, Nums, OpenGate, PipeRx, PipeTx, Sink, Source,

@@ -1,3 +1,5 @@
+//! A text that grows by refusable steps.
+
 ghost use Rattle.std.specs.Fmt.{decimal};
 ghost use Rattle.std.specs.Prelude.{◌≡◌, ◌==◌, ◌+◌, ◌<◌, [], ◌++◌, length, slice_get, OnOk, OnErr, IfErr, encode_utf8};
 

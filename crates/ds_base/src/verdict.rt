@@ -1,3 +1,5 @@
+//! What a group is judged to be, and the answer that a report has for it.
+
 use crate::{Nums, Stamp};
 
 /// What a group of copies was judged to be.

@@ -37,7 +37,7 @@ power_split k n within = let sum : k ≡ (k - n) + n = omega arith in ap (λ m. 
 moved : (a b p q r : ℕ) → p ≡ q * r → a * p + b ≡ a * q * r + b
 moved a b p q r e = ap (λ n. a * n + b) e ∙ ap (λ n. n + b) (sym (mul_assoc a q r))
 
--- the part of a number between what stands before and behind
+-- the part of a number between what stands before and after
 middle_of : (before middle after k j count behind : ℕ) → after < 2 ^ j → count + behind ≤ k → ((before * 2 ^ k + middle) * 2 ^ j + after) / 2 ^ (j + behind) % 2 ^ count ≡ middle / 2 ^ behind % 2 ^ count
 middle_of before middle after k j count behind small within =
     let whole = ((before * 2 ^ k + middle) * 2 ^ j + after) in

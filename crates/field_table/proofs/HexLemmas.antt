@@ -40,12 +40,12 @@ unfolding digits
 hex_step n h small =
     spell_next 63 n [] h ∙ (spell_enough 62 63 (n / 16) (last_glyph n ∷ []) (omega arith) (omega arith) ∙ spell-append 64 (n / 16) (last_glyph n ∷ []))
 
--- one digit written behind a text
+-- one digit written after a text
 pub pushed_digit : (old new : List ℕ) (n glyph : ℕ) → n < 16 → new ≡ old ++ (glyph ∷ []) → glyph ≡ digit_glyph false n → new ≡ old ++ digits 16 false n
 pushed_digit old new n glyph small written is =
     written ∙ ap (λ g. old ++ g) (ap (λ g. g ∷ []) is ∙ sym (hex_digit n small))
 
--- the last digit written behind the others
+-- the last digit written after the others
 pub pushed_last : (old front new : List ℕ) (n glyph : ℕ) → 16 ≤ n → n < 2 ^ 128 → front ≡ old ++ digits 16 false (n / 16) → new ≡ front ++ (glyph ∷ []) → glyph ≡ digit_glyph false (n % 16) → new ≡ old ++ digits 16 false n
 pushed_last old front new n glyph large fits before written is =
     written

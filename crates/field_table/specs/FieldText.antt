@@ -1,3 +1,4 @@
+-- The text of a field.
 use Rattle.std.specs.Prelude.{ℕ, ◌+◌, Bool, true, false, List, [], ◌++◌, codes, slice_get, unwrap_or}
 use Rattle.std.specs.Fmt.{decimal}
 use Rattle.field_table.specs.declared.kind.Kind.{Kind}

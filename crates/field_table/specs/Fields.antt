@@ -1,3 +1,4 @@
+-- The number of a field in the bytes of its header.
 use Rattle.std.specs.Prelude.{ℕ, ◌+◌, ◌*◌, ◌==◌, nat_le, if◌then◌else◌, List, length, Option, Some, None, slice_get, option_and_then, option_map}
 use Rattle.field_table.specs.declared.forms.Form.{Form}
 use Rattle.field_table.specs.declared.kind.Kind.{Kind}
@@ -8,7 +9,7 @@ use Rattle.field_table.specs.Bits.{number_of_bits}
 use Rattle.field_table.specs.Table.{layouts_of}
 
 -- The first bit of a field in these bytes of a header. In GRE the checksum, the key and the sequence
--- number stand in this order behind the first 32 bits, each in 32 bits of its own and only where its
+-- number stand in this order after the first 32 bits, each in 32 bits of its own and only where its
 -- bit is set: C is bit 0, K bit 2 and S bit 3 (RFC 2784 section 2.1, RFC 2890 section 2).
 unfoldable pub first_bit : Place → List ℕ → Option ℕ
 first_bit (At first) bytes = Some first

@@ -11,7 +11,7 @@ infixl 10 ◌>>=◌
 abbrev pub ◌>>=◌ : {A B : Type 0} → Option A → (A → Option B) → Option B
 o >>= f = option_and_then f o
 
--- what stands before and behind the first such byte
+-- what stands before and after the first such byte
 abbrev pub split_at : ℕ → List ℕ → Option (List ℕ × List ℕ)
 split_at mark bytes = position (λ b. b == mark) bytes >>= λ at. Some (take at bytes, drop (at + 1) bytes)
 
@@ -47,7 +47,7 @@ unfoldable pub index_of : List ℕ → Option (Bool × ℕ)
 index_of [] = None
 index_of (b ∷ bytes) = if b == 45 then small_number bytes >>= from_inside else small_number (b ∷ bytes) >>= from_outside
 
--- what stands behind a point
+-- what stands after a point
 abbrev pub behind_point : List ℕ → Option (List ℕ)
 behind_point [] = None
 behind_point (b ∷ bytes) = if b == 46 then Some bytes else None

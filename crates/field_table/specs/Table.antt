@@ -1,3 +1,4 @@
+-- The table of fields, written out once more.
 use Rattle.std.specs.Prelude.{ℕ, List, [], ◌∷◌, codes, map}
 use Rattle.field_table.specs.declared.forms.Form.{Form}
 use Rattle.field_table.specs.declared.forms.Form.TheVariants.{Dec, Hex, Mac, Addr4, Addr6}

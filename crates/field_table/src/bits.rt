@@ -1,3 +1,5 @@
+//! The number of some bits of some bytes.
+
 ghost use Rattle.std.specs.Prelude.{◌≡◌, ◌+◌, ◌*◌, ◌%◌, ◌<◌, ◌≤◌, length};
 ghost use Rattle.std.specs.Int.Digits.{number_from_digits};
 ghost use Rattle.field_table.specs.Bits.{number_of_bits};

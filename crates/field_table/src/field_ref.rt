@@ -1,3 +1,5 @@
+//! A field of one header of a packet.
+
 ghost use Rattle.std.specs.Prelude.{◌<◌, ◌≤◌, length};
 ghost use Rattle.field_table.specs.Table.{names_of};
 

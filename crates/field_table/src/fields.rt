@@ -1,3 +1,5 @@
+//! Fields by name: the reading of `kind[index].name`.
+
 ghost use Rattle.std.specs.Prelude.{◌≡◌, IfSome, Some};
 ghost use Rattle.field_table.specs.declared.field_ref.FieldRef.{FieldRef};
 ghost use Rattle.field_table.specs.FieldText.{field_text};

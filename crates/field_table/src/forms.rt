@@ -1,3 +1,5 @@
+//! The form of a field.
+
 /// How the number of a field is printed.
 #[derive(Clone, Copy, Debug, PartialEq, Eq)]
 pub enum Form {

@@ -1,6 +1,8 @@
+//! What a header says of the bytes after it.
+
 use crate::kind::Kind;
 
-/// What a header says of the bytes behind it.
+/// What a header says of the bytes after it.
 #[derive(Clone, Copy, Debug, PartialEq, Eq)]
 pub enum Next {
     /// No header that is known here.
@@ -14,9 +16,9 @@ pub enum Next {
 pub struct Head {
     /// How many bytes the header has.
     pub len: u32,
-    /// What stands behind it.
+    /// What stands after it.
     pub next: Next,
-    /// The end of the bytes that the headers behind it may use, counted from this header's first
+    /// The end of the bytes that the headers after it may use, counted from this header's first
     /// byte.
     pub limit: u32,
 }

@@ -1,3 +1,5 @@
+//! Numbers in hexadecimal.
+
 ghost use Rattle.std.specs.Prelude.{◌≡◌, ◌++◌, ◌∷◌, ◌<◌, OnOk, false};
 ghost use Rattle.std.specs.Fmt.{digit_glyph, digits};
 ghost use Rattle.std.specs.String.{string_bytes};
@@ -48,7 +50,7 @@ pub(crate) fn push_group(text: &mut String, n: u128, from: u8) -> Result<(), All
     Ok(())
 }
 
-/// The same behind a `:`.
+/// The same after a `:`.
 pub(crate) fn push_next_group(text: &mut String, n: u128, from: u8) -> Result<(), AllocError>
     requires { from < 128 }
     ensures { OnOk result (string_bytes text.new ≡ string_bytes text.old ++ (58 ∷ hex_group (group_at n from))) }

@@ -1,9 +1,11 @@
+//! The kinds of header.
+
 /// The kinds of header.
 #[derive(Clone, Copy, Debug, PartialEq, Eq)]
 pub enum Kind {
     /// Ethernet: the two addresses and the type.
     Eth,
-    /// A VLAN tag (IEEE 802.1Q): its control word and the type behind it.
+    /// A VLAN tag (IEEE 802.1Q): its control word and the type after it.
     Tag,
     /// IPv4 (RFC 791 section 3.1).
     Ipv4,

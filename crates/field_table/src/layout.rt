@@ -1,3 +1,5 @@
+//! Where a field lies in its header, and how it is printed.
+
 use crate::forms::Form;
 
 /// Where the bits of a field begin in its header. Bits are counted from 0, the most significant bit
@@ -6,11 +8,11 @@ use crate::forms::Form;
 pub enum Place {
     /// At this bit in every header of the kind.
     At(u16),
-    /// In GRE behind the first four bytes, where the bit C is set (RFC 2784 section 2.1).
+    /// In GRE after the first four bytes, where the bit C is set (RFC 2784 section 2.1).
     Checksum,
-    /// In GRE behind the words before it, where the bit K is set (RFC 2890 section 2.1).
+    /// In GRE after the words before it, where the bit K is set (RFC 2890 section 2.1).
     Key,
-    /// In GRE behind the words before it, where the bit S is set (RFC 2890 section 2.2).
+    /// In GRE after the words before it, where the bit S is set (RFC 2890 section 2.2).
     Sequence,
 }
 

@@ -1,3 +1,5 @@
+//! The words of kinds and fields.
+
 ghost use Rattle.std.specs.Prelude.{◌≡◌, ◌<◌, length, position};
 ghost use Rattle.std.specs.Str.{bytes_eq};
 ghost use Rattle.field_table.specs.FieldText.{kind_text, name_of};

@@ -1,3 +1,5 @@
+//! Which kind of header a type, a protocol or a port announces.
+
 ghost use Rattle.std.specs.Prelude.{◌≡◌};
 ghost use Rattle.field_table.specs.NextKinds.{kind_by_ethernet_type, kind_by_next_header, kind_by_protocol};
 

@@ -1,3 +1,5 @@
+//! The text of a field, and of its number.
+
 ghost use Rattle.std.specs.Prelude.{◌≡◌, IfOk};
 ghost use Rattle.std.specs.String.{string_bytes};
 ghost use Rattle.field_table.specs.FieldText.{field_text};

@@ -1,3 +1,5 @@
+//! The parts of the text of a field.
+
 ghost use Rattle.std.specs.Prelude.{◌≡◌, ◌<◌, ◌==◌, IfSome, length, option_map, position};
 ghost use Rattle.field_table.specs.Reading.{behind_point, index_of, parts_of, small_number, split_at};
 
@@ -18,7 +20,7 @@ pub(crate) fn parts(text: &[u8]) -> Option<(Kind, (bool, u8), u8)>
     Some((kind, way, field))
 }
 
-/// What stands before and behind the first `mark`.
+/// What stands before and after the first `mark`.
 fn split_at(bytes: &[u8], mark: u8) -> Option<(&[u8], &[u8])>
     ensures { option_map (λ parts. (parts.0.now, parts.1.now)) result ≡ split_at mark bytes.now }
 {
@@ -34,7 +36,7 @@ fn first_place(bytes: &[u8], mark: u8) -> Option<usize>
     bytes.iter().position(|b| *b == mark)
 }
 
-/// What stands behind a point.
+/// What stands after a point.
 fn behind_point(bytes: &[u8]) -> Option<&[u8]>
     ensures { option_map (λ name. name.now) result ≡ behind_point bytes.now }
 {

@@ -1,3 +1,5 @@
+//! The table of fields: for each kind its rows, in their order.
+
 ghost use Rattle.std.specs.Prelude.{◌≡◌, map};
 ghost use Rattle.field_table.specs.Table.{layouts_of, names_of};
 
@@ -20,7 +22,7 @@ pub(crate) static ETH: [(&str, Layout); 3] = [
     row!("type", At(96), 16, Hex),
 ];
 
-/// A VLAN tag: priority, drop eligible, VLAN identifier, the type behind it (IEEE 802.1Q).
+/// A VLAN tag: priority, drop eligible, VLAN identifier, the type after it (IEEE 802.1Q).
 pub(crate) static TAG: [(&str, Layout); 4] = [
     row!("pcp", At(0), 3, Dec),
     row!("dei", At(3), 1, Dec),
@@ -91,7 +93,7 @@ pub(crate) static UDP: [(&str, Layout); 4] = [
     row!("sum", At(48), 16, Hex),
 ];
 
-/// ICMP (RFC 792) and ICMPv6 (RFC 4443 section 2.1); `rest` is the word behind the checksum.
+/// ICMP (RFC 792) and ICMPv6 (RFC 4443 section 2.1); `rest` is the word after the checksum.
 pub(crate) static ICMP: [(&str, Layout); 4] = [
     row!("type", At(0), 8, Dec),
     row!("code", At(8), 8, Dec),

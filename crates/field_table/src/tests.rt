@@ -1,3 +1,5 @@
+//! Texts and numbers of fields from outside.
+
 use crate::{Form, field, form, kind_name, print_field, print_value, value};
 use std::test::Fail;
 

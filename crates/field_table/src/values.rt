@@ -1,3 +1,5 @@
+//! The number of a field, read from the bytes of its header.
+
 ghost use Rattle.std.specs.Prelude.{◌≡◌, ◌<◌, length, Some, slice_get};
 ghost use Rattle.field_table.specs.Bits.{number_of_bits};
 ghost use Rattle.field_table.specs.Fields.{first_bit, value_of};

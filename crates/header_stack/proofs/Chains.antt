@@ -23,7 +23,7 @@ abbrev after : ℕ → ℕ → Kind → List ℕ → Option Head → List Layer
 after most port kind bytes o =
     option_map_or (λ head. layer_of kind bytes head ∷ stack_from most port head.next (behind head bytes)) o []
 
--- what a layer and those behind it are, by the header that was read
+-- what a layer and those after it are, by the header that was read
 abbrev Read : ℕ → List ℕ → Layer → List Layer → Head → Type 0
 Read port bytes layer layers head = (layer.bytes ≡ take head.len bytes) × Chain port head.next (behind head bytes) layers
 

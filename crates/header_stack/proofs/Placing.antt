@@ -15,7 +15,7 @@ use Rattle.header_stack.specs.Stack.{behind, joined, IsStack, stack_from, stack_
 use Rattle.header_stack.proofs.Chains.{same_layer, stack_is}
 use Rattle.header_stack.proofs.Fits.{fits}
 
--- what the bytes are behind the first layer
+-- what the bytes are after the first layer
 rest-behind : (bytes : List ℕ) (from : ℕ) (layer : Layer) (layers : List Layer) (rest : List ℕ) → drop from bytes ≡ joined (layer ∷ layers) ++ rest
     → drop from bytes ≡ layer.bytes ++ (joined layers ++ rest)
 rest-behind bytes from layer layers rest e = e ∙ append_assoc layer.bytes (joined layers) rest

@@ -24,7 +24,7 @@ is_kind _ _ = false
 abbrev pub of_kind : {X : Type 0} → (X → Kind) → Kind → List X → List X
 of_kind kind_of kind xs = filter (λ x. is_kind (kind_of x) kind) xs
 
--- the one that a field is looked for in: so many steps behind the first of its kind, counted from the
+-- the one that a field is looked for in: so many steps after the first of its kind, counted from the
 -- outside or from the inside
 abbrev pub nth_of : {X : Type 0} → (X → Kind) → FieldRef → List X → Option X
 nth_of kind_of f xs = slice_get (of_kind kind_of f.kind (if f.inside then reverse xs else xs)) f.steps

@@ -8,11 +8,11 @@ use Rattle.field_table.specs.declared.head.Next.TheVariants.{End, Header}
 use Rattle.header_stack.specs.Headers.{first_of, header_of}
 use Rattle.header_stack.specs.Layer.{Layer}
 
--- the bytes behind a header, up to the limit that it leaves
+-- the bytes after a header, up to the limit that it leaves
 abbrev pub behind : Head → List ℕ → List ℕ
 behind head bytes = take (head.limit - head.len) (drop head.len bytes)
 
--- The layers stand one behind the other at the start of the bytes, which end at the limit. Each is a
+-- The layers stand one after the other at the start of the bytes, which end at the limit. Each is a
 -- header of the kind that is named for it, by `next` or by the one before, whole within the limit that
 -- those before it leave.
 abbrev pub Chain : ℕ → Next → List ℕ → List Layer → Type 0

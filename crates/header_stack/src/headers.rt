@@ -1,3 +1,5 @@
+//! Which call reads a header of each kind.
+
 ghost use Rattle.std.specs.Prelude.{◌≡◌, ◌≤◌, length, IfSome};
 ghost use Rattle.header_stack.specs.Headers.{first_of, header_of};
 

@@ -1,3 +1,5 @@
+//! The n-th header of a kind, from outside or from inside.
+
 ghost use Rattle.std.specs.Prelude.{◌≡◌, reverse, slice_get};
 ghost use Rattle.header_stack.specs.Nth.{is_kind, of_kind};
 

@@ -1,3 +1,5 @@
+//! The walk through the headers of a packet.
+
 ghost use Rattle.std.specs.Prelude.{◌≡◌, ◌≤◌, ℕ, List, length};
 ghost use Rattle.std.specs.List.{All};
 ghost use Rattle.header_stack.specs.Layer.{Layer};
@@ -9,7 +11,7 @@ use crate::place::Place;
 use crate::stack::Stack;
 use field_table::Next;
 
-/// The header stack of a packet of a capture of this link type. VXLAN is looked for behind UDP to
+/// The header stack of a packet of a capture of this link type. VXLAN is looked for after UDP to
 /// `port`.
 ///
 /// A link type other than 1 (Ethernet) and 101 (raw IP) gives the empty stack. A header that is refused

@@ -1,3 +1,5 @@
+//! Where a header stands in a packet.
+
 ghost use Rattle.std.specs.Prelude.{◌≡◌, slice_range};
 ghost use Rattle.header_stack.specs.Places.{LiesIn};
 
@@ -10,7 +12,7 @@ pub struct Place {
     pub kind: Kind,
     /// Its first byte.
     pub from: u32,
-    /// The first byte behind it.
+    /// The first byte after it.
     pub to: u32,
 }
 

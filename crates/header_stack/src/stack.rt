@@ -1,3 +1,5 @@
+//! The places of a packet's headers.
+
 ghost use Rattle.std.specs.Prelude.{◌≡◌, ◌≤◌, ◌<◌, ◌↔◌, [], ◌∷◌, ◌++◌, length, IsTrue, Some, IfSome, Contains, slice_get};
 ghost use Rattle.header_stack.specs.Nth.{nth_of};
 
@@ -80,7 +82,7 @@ impl Stack {
         }
     }
 
-    // Puts a place behind the others.
+    // Puts a place after the others.
     pub(crate) fn push(&mut self, place: Place)
         requires { length self.old < 16 }
         ensures { self.new ≡ self.old ++ place ∷ [] }

@@ -1,3 +1,5 @@
+//! Packets from outside, header by header.
+
 use crate::{Place, field_value, header, walk};
 use field_table::{Kind, field};
 use std::process::Abort;
@@ -89,7 +91,7 @@ fn limits_and_refusals_end_the_stack(rt: HostRuntime) {
     packet[17] = 19;
     stands(&rt, 1, &packet, &[(Eth, 14)]);
     packet[17] = 28;
-    // behind the first fragment no header is named
+    // after the first fragment no header is named
     packet[21] = 1;
     stands(&rt, 1, &packet, &[(Eth, 14), (Ipv4, 34)]);
     packet[21] = 0;

@@ -1,3 +1,5 @@
+//! The value of a field of a packet.
+
 ghost use Rattle.std.specs.Prelude.{◌≡◌, ℕ};
 ghost use Rattle.std.specs.List.{All};
 ghost use Rattle.header_stack.specs.Places.{LiesIn, layers_at};

@@ -1,3 +1,4 @@
+-- Numbers in the bytes of a header.
 use Rattle.std.specs.Prelude.{ℕ, ◌+◌, ◌*◌, List, slice_index}
 
 -- the 16 bits from a byte on, the most significant first

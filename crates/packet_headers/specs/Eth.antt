@@ -1,4 +1,4 @@
--- The header of Ethernet: two addresses of six bytes and the type of what stands behind them.
+-- The header of Ethernet: two addresses of six bytes and the type of what stands after them.
 use Rattle.std.specs.Prelude.{ℕ, nat_le, if◌then◌else◌, List, length, Option, Some, None}
 use Rattle.field_table.specs.declared.head.Head.{Head}
 use Rattle.field_table.specs.NextKinds.{kind_by_ethernet_type}

@@ -6,7 +6,7 @@ use Rattle.field_table.specs.NextKinds.{kind_by_next_header}
 abbrev pub next_header : List ℕ → ℕ
 next_header bytes = slice_index bytes 0
 
--- how many bytes the header has: byte 1 counts units of eight bytes behind the first
+-- how many bytes the header has: byte 1 counts units of eight bytes after the first
 abbrev pub header_length : List ℕ → ℕ
 header_length bytes = (slice_index bytes 1 + 1) * 8
 

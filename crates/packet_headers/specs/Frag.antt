@@ -13,7 +13,7 @@ next_header bytes = slice_index bytes 0
 abbrev pub fragment_offset : List ℕ → ℕ
 fragment_offset bytes = word bytes 2 / 8
 
--- what stands behind: nothing that is known in a later fragment
+-- what stands after: nothing that is known in a later fragment
 abbrev pub next_of : List ℕ → Next
 next_of bytes = if fragment_offset bytes == 0 then kind_by_next_header (next_header bytes) else End
 

@@ -25,7 +25,7 @@ fragment_offset bytes = word bytes 6 % 8192
 abbrev pub protocol : List ℕ → ℕ
 protocol bytes = slice_index bytes 9
 
--- what stands behind: nothing that is known in a later fragment
+-- what stands after: nothing that is known in a later fragment
 abbrev pub next_of : List ℕ → Next
 next_of bytes = if fragment_offset bytes == 0 then kind_by_protocol (protocol bytes) else End
 

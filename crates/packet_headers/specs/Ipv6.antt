@@ -8,7 +8,7 @@ use Rattle.packet_headers.specs.Bytes.{word}
 abbrev pub version : List ℕ → ℕ
 version bytes = slice_index bytes 0 / 16
 
--- how many bytes of the packet stand behind this header; 0 says nothing
+-- how many bytes of the packet stand after this header; 0 says nothing
 abbrev pub payload_length : List ℕ → ℕ
 payload_length bytes = word bytes 4
 

@@ -1,3 +1,5 @@
+//! The header of Ethernet.
+
 ghost use Rattle.std.specs.Prelude.{◌≡◌, ◌≤◌, length};
 ghost use Rattle.packet_headers.specs.Eth.{eth_header};
 

@@ -1,3 +1,5 @@
+//! The extension headers of IPv6 that state their length.
+
 ghost use Rattle.std.specs.Prelude.{◌≡◌, ◌≤◌, length};
 ghost use Rattle.packet_headers.specs.Ext.{ext_header};
 

@@ -1,3 +1,5 @@
+//! The fragment header of IPv6.
+
 ghost use Rattle.std.specs.Prelude.{◌≡◌, ◌≤◌, length};
 ghost use Rattle.packet_headers.specs.Frag.{frag_header};
 
@@ -5,7 +7,7 @@ use byteorder::{BigEndian, ByteOrder};
 use field_table::{Head, Next, kind_by_next_header};
 
 /// The fragment header of IPv6 (RFC 8200 section 4.5) at the start of `bytes`, which end at the
-/// current limit. A later fragment has nothing behind it.
+/// current limit. A later fragment has nothing after it.
 ///
 /// `None` where its 8 bytes are not all there.
 pub fn read_frag(bytes: &[u8]) -> Option<Head>

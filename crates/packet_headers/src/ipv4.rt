@@ -1,3 +1,5 @@
+//! The header of IPv4.
+
 ghost use Rattle.std.specs.Prelude.{◌≡◌, ◌≤◌, length};
 ghost use Rattle.packet_headers.specs.Ipv4.{ipv4_header};
 
@@ -5,7 +7,7 @@ use byteorder::{BigEndian, ByteOrder};
 use field_table::{Head, Next, kind_by_protocol};
 
 /// The header of IPv4 (RFC 791 section 3.1) at the start of `bytes`, which end at the current limit.
-/// A total length within the limit is the new limit, and a later fragment has nothing behind it.
+/// A total length within the limit is the new limit, and a later fragment has nothing after it.
 ///
 /// `None` where the version is not 4, where the header length is below five words or not all of these
 /// words are there, and where the total length is not 0 and below the header length.

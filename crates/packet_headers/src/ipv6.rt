@@ -1,3 +1,5 @@
+//! The fixed header of IPv6.
+
 ghost use Rattle.std.specs.Prelude.{◌≡◌, ◌≤◌, length};
 ghost use Rattle.packet_headers.specs.Ipv6.{ipv6_header};
 

@@ -1,6 +1,6 @@
 //! One header at a time, of Ethernet, VLAN tags, IPv4, IPv6 and its extension headers: from the
-//! bytes between its start and the limit, how long it is, what stands behind it, and where the
-//! bytes behind it end. One file a header; the field_table crate has what they share.
+//! bytes between its start and the limit, how long it is, what stands after it, and where the
+//! bytes after it end. One file a header; the field_table crate has what they share.
 #![tactic(auto)]
 
 mod eth;

@@ -1,3 +1,5 @@
+//! Headers from outside, and each limit.
+
 use crate::{read_eth, read_ext, read_frag, read_ipv4, read_ipv6, read_tag};
 use field_table::{Head, Kind, Next};
 
@@ -146,7 +148,7 @@ fn ipv6_and_its_extensions_name_what_follows(rt: HostRuntime) {
         assert_eq!(rt; ext(number, 0, 8), head(8, next, 8));
         assert_eq!(rt; ext(number, 1, 15), None);
         assert_eq!(rt; ext(number, 0, 1), None);
-        // the offset is the first 13 bits of the word, and the three behind it do not count
+        // the offset is the first 13 bits of the word, and the three after it do not count
         assert_eq!(rt; frag(number, 0, 7, 9), head(8, next, 9));
         assert_eq!(rt; frag(number, 0, 8, 8), head(8, Next::End, 8));
         assert_eq!(rt; frag(number, 0x80, 0, 8), head(8, Next::End, 8));

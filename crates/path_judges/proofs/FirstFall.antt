@@ -88,7 +88,7 @@ IsFirstFall-here hop seen rest member high never found =
       low_is = refl;
     }
 
--- the verdict on the members behind those that were seen, among which none falls
+-- the verdict on the members after those that were seen, among which none falls
 loop_at-is : (hop : ℕ) (seen rest : List Summary) (member : Summary) (found : Option Summary) (later : Verdict) → NeverFalls hop seen
     → find (is_above hop member) seen ≡ found
     → (find (is_above hop member) seen ≡ None → IsLoopVerdict hop (seen ++ member ∷ rest) later)

@@ -19,7 +19,7 @@ pub length-walk : (members : List Summary) → length (walk_of members) ≡ leng
 length-walk [] = refl
 length-walk (member ∷ members) = ap suc (length-walk members)
 
--- k steps were met by k captures; what begins behind them is still to be counted
+-- k steps were met by k captures; what begins after them is still to be counted
 pub record Followed (steps : List Step) (walk : List ℕ) (k : ℕ) : Type 0 where
   pub within : k ≤ length walk
   pub rest : k + begun (drop k steps) (drop k walk) ≡ begun steps walk

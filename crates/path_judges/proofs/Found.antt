@@ -4,14 +4,14 @@ use Rattle.std.proofs.lemmas.Option.{none-some, same_Some, slice_get_within, get
 use Rattle.std.proofs.Math.Seq.{take-suc, drop-cons}
 use Rattle.std.proofs.Math.Numerals.{add-one}
 
--- the item at a place stands before those behind it
+-- the item at a place stands before those after it
 pub drop-here : {X : Type 0} (xs : List X) (i : ℕ) (x : X) → slice_get xs i ≡ Some x → drop i xs ≡ x ∷ drop (i + 1) xs
 drop-here xs i x e =
     let here = get_or_from_slice_get xs i x x e in
     let within = slice_get_within xs i x e in
     drop-cons xs i x within ∙ ap (λ y. y ∷ drop (suc i) xs) here ∙ ap (λ n. x ∷ drop n xs) (sym (add-one i))
 
--- and behind those before it
+-- and after those before it
 pub take-here : {X : Type 0} (xs : List X) (i : ℕ) (x : X) → slice_get xs i ≡ Some x → take (i + 1) xs ≡ take i xs ++ x ∷ []
 take-here xs i x e =
     let here = get_or_from_slice_get xs i x x e in

@@ -9,7 +9,7 @@ use Rattle.path_judges.specs.Pattern.{matches, begun}
 use Rattle.path_judges.specs.Open.{IsOpen, is_many, admits, opens}
 use Rattle.path_judges.proofs.Found.{drop-here}
 
--- what a step adds to the steps behind it
+-- what a step adds to the steps after it
 pub matches-nil : (step : Step) (steps : List Step) → matches (step ∷ steps) [] ≡ (is_many step && matches steps [])
 matches-nil (Point point) steps = refl
 matches-nil One steps = refl
@@ -62,7 +62,7 @@ OpenFrom-below steps captures k here open_at o lt is = record {
   each = λ j low high. open_below steps captures k here open_at o lt is j low high (cases_eq j k);
 }
 
--- the position behind all steps is open for no capture alone
+-- the position after all steps is open for no capture alone
 drop-all : {X : Type 0} (xs : List X) → drop (length xs) xs ≡ []
 drop-all [] = refl
 drop-all (x ∷ xs) = drop-all xs

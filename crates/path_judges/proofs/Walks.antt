@@ -24,7 +24,7 @@ same_capture a b h = grind (arith, nat_tests)
 same_test : (a b : ℕ) → a ≡ b → (a == b) ≡ true
 same_test a b h = grind (arith, nat_tests)
 
--- an end of the list that passes the test, behind any number of captures
+-- an end of the list that passes the test, after any number of captures
 some_end-split : (test : List ℕ → Bool) (captures : List ℕ) → some_end test captures ≡ true → (many rest : List ℕ) × (captures ≡ many ++ rest) × (test rest ≡ true)
 some_end-split test [] h = ([], [], refl, h)
 some_end-split test (capture ∷ captures) h =

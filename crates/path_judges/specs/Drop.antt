@@ -1,3 +1,4 @@
+-- The verdict on lost packets.
 use Rattle.std.specs.Prelude.{ℕ, ◌≡◌, ◌-◌, ◌==◌, List, length, Bool, if◌then◌else◌, slice_get, All, Any, Some, IsBitSet}
 use Rattle.std.specs.List.{list_any}
 use Rattle.std.specs.Option.{option_map_or}

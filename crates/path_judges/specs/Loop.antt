@@ -1,3 +1,4 @@
+-- The verdict on packets that came back.
 use Rattle.std.specs.Prelude.{ℕ, ◌≡◌, ◌<◌, ◌≤◌, ◌==◌, ◌&&◌, nat_lt, List, [], ◌∷◌, ◌++◌, Bool, Option, Some, None, slice_get}
 use Rattle.std.specs.List.{find}
 use Rattle.ds_base.specs.declared.summary.Summary.{Summary}
@@ -45,7 +46,7 @@ abbrev pub loop_at : ℕ → Summary → Option Summary → Verdict → Verdict
 loop_at hop low None later = later
 loop_at hop low (Some high) later = Loop (capture_of low) (value_of hop high) (value_of hop low)
 
--- the verdict on members behind those that were seen
+-- the verdict on members after those that were seen
 abbrev pub loop_after : ℕ → List Summary → List Summary → Verdict
 loop_after hop seen [] = Fine
 loop_after hop seen (member ∷ members) =

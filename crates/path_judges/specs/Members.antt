@@ -1,3 +1,4 @@
+-- What a judge sees of a member.
 use Rattle.std.specs.Prelude.{ℕ, List, map, slice_index}
 use Rattle.ds_base.specs.declared.summary.Summary.{Summary}
 

@@ -1,3 +1,4 @@
+-- Matching by the set of open positions.
 use Rattle.std.specs.Prelude.{ℕ, ◌≡◌, ◌≤◌, ◌==◌, ◌&&◌, ◌||◌, Bool, true, false, List, length, drop, slice_index_or}
 use Rattle.path_judges.specs.declared.pattern.Step.{Step}
 use Rattle.path_judges.specs.declared.pattern.Step.TheVariants.{Point, One, Many}

@@ -1,3 +1,4 @@
+-- The verdict on allowed paths.
 use Rattle.std.specs.Prelude.{ℕ, ◌≤◌, max, List, [], ◌∷◌, length, take, Any, if◌then◌else◌}
 use Rattle.std.specs.List.{list_any}
 use Rattle.ds_base.specs.declared.verdict.Verdict.{Verdict}

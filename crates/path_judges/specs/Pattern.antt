@@ -1,3 +1,4 @@
+-- Which walks match a pattern.
 use Rattle.std.specs.Prelude.{ℕ, suc, ◌≡◌, ◌==◌, ◌&&◌, ◌||◌, Bool, true, false, List, [], ◌∷◌, ◌++◌, length, if◌then◌else◌}
 use Rattle.path_judges.specs.declared.pattern.Step.{Step}
 use Rattle.path_judges.specs.declared.pattern.Step.TheVariants.{Point, One, Many}

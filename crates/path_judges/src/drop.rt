@@ -1,3 +1,5 @@
+//! The judge of lost packets.
+
 ghost use Rattle.std.specs.Prelude.{◌≡◌, ◌<◌, length, All};
 ghost use Rattle.std.specs.List.{list_any};
 ghost use Rattle.ds_base.specs.declared.verdict.Verdict.{Verdict};

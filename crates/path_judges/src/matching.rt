@@ -1,3 +1,5 @@
+//! How much of a walk begins a pattern: the set of open positions, from the end of the walk.
+
 ghost use Rattle.std.specs.Prelude.{◌≡◌, ℕ, List, [], ◌∷◌};
 ghost use Rattle.path_judges.specs.Members.{walk_of};
 ghost use Rattle.path_judges.specs.Pattern.{matches, begun};
@@ -22,7 +24,7 @@ pub fn is_match(members: &SummaryList, pattern: &Pattern) -> bool
     positions[0]
 }
 
-// The positions that are open for no capture: those with nothing but `Many` behind them.
+// The positions that are open for no capture: those with nothing but `Many` after them.
 fn open_at_end(pattern: &Pattern) -> Positions
     ensures { IsOpen pattern.now [] result }
 {

@@ -1,3 +1,5 @@
+//! What a judge reads of a member.
+
 ghost use Rattle.std.specs.Prelude.{◌≡◌, ◌<◌, length};
 ghost use Rattle.path_judges.specs.Members.{value_of};
 

@@ -1,3 +1,5 @@
+//! The judge of allowed paths.
+
 ghost use Rattle.std.specs.Prelude.{◌≡◌, ◌<◌, length};
 ghost use Rattle.ds_base.specs.declared.verdict.Verdict.{Verdict};
 ghost use Rattle.path_judges.specs.Members.{walk_of};

@@ -1,3 +1,5 @@
+//! Patterns of paths.
+
 ghost use Rattle.std.specs.Prelude.{◌≡◌, ◌<◌, ◌≤◌, ◌++◌, [], ◌∷◌, length, slice_get, Some};
 
 use ds_base::ItemList;

@@ -1,3 +1,5 @@
+//! Worked groups of each judge.
+
 ghost use Rattle.std.specs.Prelude.{◌<◌, length, All, IfOk};
 ghost use Rattle.path_judges.specs.Members.{capture_of};
 

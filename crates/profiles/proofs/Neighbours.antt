@@ -28,7 +28,7 @@ delays-short [] le = refl
 delays-short (a ∷ []) le = refl
 delays-short (a ∷ b ∷ l) le = absurd (omega arith)
 
--- behind the last member there is no delay
+-- after the last member there is no delay
 pub delays-end : (l : List Summary) (i : ℕ) → length l ≤ i + 1 → delays (drop i l) ≡ []
 delays-end l i le = delays-short (drop i l) (omega (arith, length-drop i l))
 

@@ -96,7 +96,7 @@ wide-at (x ∷ xs) (suc i) d w lt = wide-at xs i d w.1 (omega arith)
 
 -- ---- the search for a place
 
--- what a place behind the end is read as
+-- what a place after the end is read as
 abbrev pub no_row : ProfileRow
 no_row = record { from = 0; to = 0; count = 0; sum = 0; least = 0; greatest = 0; classes = [] }
 

@@ -1,3 +1,5 @@
+//! Laws about profiles that the report builds on. Each is a call that does nothing.
+
 ghost use Rattle.profiles.specs.Laws.{InAnyOrder, OneProfile, RowByRow, FewInGroup, FewDelays, WithinWindow};
 
 /// A law: the profile of groups is that of the same groups in any other order.

@@ -1,3 +1,5 @@
+//! The profile that grows.
+
 ghost use Rattle.std.specs.Prelude.{ℕ, List, ◌≡◌, ◌<◌, ◌≤◌, ◌+◌, ◌^◌, ◌++◌, ◌∷◌, [], ◌↔◌, ◌==◌, length, slice_get, All, OnOk, OnErr, IfSome, IsNone};
 ghost use Rattle.ds_base.specs.Copies.{Copies, copies_of};
 ghost use Rattle.ds_base.specs.Order.{InStampOrder};

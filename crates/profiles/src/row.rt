@@ -1,3 +1,5 @@
+//! One row: that of a single delay, and how two are joined.
+
 ghost use Rattle.std.specs.Prelude.{◌≡◌, ◌<◌, ◌≤◌, ◌+◌, ◌*◌, ◌^◌, length, sum};
 ghost use Rattle.profiles.specs.Rows.{joined, added, binary_digits, IsSound};
 ghost use Rattle.profiles.specs.Put.{single};

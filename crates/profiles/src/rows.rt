@@ -1,3 +1,5 @@
+//! The sorted list of rows: where a pair has its row, and how delays and rows are put there.
+
 ghost use Rattle.std.specs.Prelude.{◌≡◌, ◌<◌, ◌≤◌, ◌+◌, ◌*◌, ◌^◌, ◌⊎◌, ℕ, length, slice_index_or, insert, slice_set, MatchResult, IfOk, OnOk, OnErr, vec_len, vec_capacity};
 ghost use Rattle.ds_base.specs.declared.profile_row.ProfileRow.{ProfileRow};
 ghost use Rattle.profiles.specs.Delays.{delays, delay_between, times_between};

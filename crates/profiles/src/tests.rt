@@ -1,3 +1,5 @@
+//! A profile of small groups, by hand.
+
 ghost use Rattle.std.specs.Prelude.{ℕ, ◌≡◌, ◌<◌, ◌≤◌, ◌+◌, ◌⊎◌, ◌∷◌, [], IfOk};
 ghost use Rattle.ds_base.specs.Order.{Precedes};
 ghost use Rattle.profiles.specs.Rows.{count_of};

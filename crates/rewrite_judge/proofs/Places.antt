@@ -8,7 +8,7 @@ use Rattle.std.proofs.Math.Numerals.{add-one}
 pub All-at : {X : Type 0} (P : X → Type 0) (xs : List X) (i : ℕ) (x : X) → slice_get xs i ≡ Some x → All P xs → P x
 All-at P xs i x e all = subst P (get_or_from_slice_get xs i x x e) (all i x (slice_get_within xs i x e))
 
--- the item at a place stands before those behind it
+-- the item at a place stands before those after it
 pub drop-here : {X : Type 0} (xs : List X) (i : ℕ) (x : X) → slice_get xs i ≡ Some x → drop i xs ≡ x ∷ drop (i + 1) xs
 drop-here xs i x e =
     let here = get_or_from_slice_get xs i x x e in

@@ -1,3 +1,4 @@
+-- The pairs of neighbouring members.
 use Rattle.std.specs.Prelude.{ℕ, ◌==◌, ◌&&◌, Bool, List, drop, filter}
 use Rattle.std.specs.List.{zip}
 use Rattle.ds_base.specs.declared.summary.Summary.{Summary}

@@ -1,3 +1,4 @@
+-- The verdict on rewritten packets.
 use Rattle.std.specs.Prelude.{ℕ, ◌≡◌, ◌+◌, ◌<◌, not, List, [], ◌∷◌, Option, Some, None, All, slice_get}
 use Rattle.std.specs.List.{position_from}
 use Rattle.ds_base.specs.declared.summary.Summary.{Summary}

@@ -1,3 +1,4 @@
+-- Which values keep a rule.
 use Rattle.std.specs.Prelude.{ℕ, ◌≡◌, ◌+◌, ◌==◌, Bool, false, IsSomeAnd, slice_index}
 use Rattle.std.specs.List.{find}
 use Rattle.std.specs.Option.{option_map_or}

@@ -1,3 +1,5 @@
+//! The judge of rewritten packets.
+
 ghost use Rattle.std.specs.Prelude.{◌≡◌, ◌<◌, ◌^◌, length, All};
 ghost use Rattle.ds_base.specs.declared.verdict.Verdict.{Verdict};
 ghost use Rattle.rewrite_judge.specs.Rule.{keeps};

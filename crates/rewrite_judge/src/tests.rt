@@ -1,3 +1,5 @@
+//! Worked groups and rules.
+
 ghost use Rattle.std.specs.Prelude.{◌≡◌, ◌<◌, length, All, IfOk};
 
 use crate::{How, PairList, Rule, RuleList, judge_rewrite};

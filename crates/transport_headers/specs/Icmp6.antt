@@ -4,7 +4,7 @@ use Rattle.field_table.specs.declared.head.Head.{Head}
 use Rattle.field_table.specs.declared.head.Next.TheVariants.{End}
 
 -- the header at the start of the bytes: type, code, checksum and four more bytes, all of them there;
--- no header is known behind it
+-- no header is known after it
 abbrev pub icmp6_header : List ℕ → Option Head
 icmp6_header bytes =
     if nat_le 8 (length bytes)

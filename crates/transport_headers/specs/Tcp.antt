@@ -8,7 +8,7 @@ abbrev pub data_offset : List ℕ → ℕ
 data_offset bytes = slice_index bytes 12 / 16
 
 -- the header at the start of the bytes: at least five words, all of them there; no header is known
--- behind it
+-- after it
 abbrev pub tcp_header : List ℕ → Option Head
 tcp_header bytes =
     if nat_le 5 (data_offset bytes) && nat_le (4 * data_offset bytes) (length bytes)

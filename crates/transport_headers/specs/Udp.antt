@@ -8,7 +8,7 @@ use Rattle.field_table.specs.declared.kind.Kind.TheVariants.{Vxlan}
 abbrev pub destination_port : List ℕ → ℕ
 destination_port bytes = 256 * slice_index bytes 2 + slice_index bytes 3
 
--- The header at the start of the bytes: eight bytes, all of them there. VXLAN stands behind it where
+-- The header at the start of the bytes: eight bytes, all of them there. VXLAN stands after it where
 -- it goes to the port that is declared for VXLAN. Its word for a length sets no limit.
 abbrev pub udp_header : ℕ → List ℕ → Option Head
 udp_header port bytes =

@@ -1,3 +1,5 @@
+//! The header of ICMP.
+
 ghost use Rattle.std.specs.Prelude.{◌≡◌, ◌≤◌, length};
 ghost use Rattle.transport_headers.specs.Icmp.{icmp_header};
 

@@ -1,3 +1,5 @@
+//! The header of ICMPv6.
+
 ghost use Rattle.std.specs.Prelude.{◌≡◌, ◌≤◌, length};
 ghost use Rattle.transport_headers.specs.Icmp6.{icmp6_header};
 

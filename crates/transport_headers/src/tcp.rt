@@ -1,3 +1,5 @@
+//! The header of TCP.
+
 ghost use Rattle.std.specs.Prelude.{◌≡◌, ◌≤◌, length};
 ghost use Rattle.transport_headers.specs.Tcp.{tcp_header};
 

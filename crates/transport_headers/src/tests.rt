@@ -1,3 +1,5 @@
+//! Headers from outside.
+
 use crate::{read_icmp, read_icmp6, read_tcp, read_udp};
 use field_table::{Head, Kind, Next};
 

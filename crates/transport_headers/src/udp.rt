@@ -1,3 +1,5 @@
+//! The header of UDP.
+
 ghost use Rattle.std.specs.Prelude.{◌≡◌, ◌≤◌, length};
 ghost use Rattle.transport_headers.specs.Udp.{udp_header};
 
@@ -5,7 +7,7 @@ use byteorder::{BigEndian, ByteOrder};
 use field_table::{Head, Kind, Next};
 
 /// The header of UDP (RFC 768) at the start of `bytes`, which end at the current limit. VXLAN stands
-/// behind it where it goes to `port`.
+/// after it where it goes to `port`.
 ///
 /// `None` where there are fewer than its eight bytes.
 pub fn read_udp(bytes: &[u8], port: u16) -> Option<Head>

@@ -24,7 +24,7 @@ gre_length bytes = 4 + 4 * bit 0 bytes + 4 * bit 2 bytes + 4 * bit 3 bytes
 abbrev pub protocol_type : List ℕ → ℕ
 protocol_type bytes = 256 * slice_index bytes 2 + slice_index bytes 3
 
--- what stands behind it, by the protocol type: these are Ethernet types, and 0x6558 announces a whole
+-- what stands after it, by the protocol type: these are Ethernet types, and 0x6558 announces a whole
 -- Ethernet frame
 abbrev pub kind_by_protocol_type : ℕ → Next
 kind_by_protocol_type n = kind_beside n ((0x0800, Ipv4) ∷ (0x86dd, Ipv6) ∷ (0x6558, Eth) ∷ [])

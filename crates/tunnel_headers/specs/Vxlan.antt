@@ -9,7 +9,7 @@ abbrev pub flag_i : List ℕ → ℕ
 flag_i bytes = slice_index bytes 0 / 8 % 2
 
 -- the header at the start of the bytes: eight bytes, all of them there, with the flag I; an Ethernet
--- frame stands behind it
+-- frame stands after it
 abbrev pub vxlan_header : List ℕ → Option Head
 vxlan_header bytes =
     if flag_i bytes == 1 && nat_le 8 (length bytes)

@@ -1,3 +1,5 @@
+//! The header of GRE.
+
 ghost use Rattle.std.specs.Prelude.{◌≡◌, ◌≤◌, ◌<◌, ◌/◌, ◌%◌, ◌-◌, ◌^◌, length};
 ghost use Rattle.tunnel_headers.specs.Gre.{gre_header, kind_by_protocol_type};
 
@@ -40,7 +42,7 @@ fn bit(byte: u8, number: u32) -> u32
     u32::from((byte >> (7 - number)) % 2)
 }
 
-// What stands behind a GRE header of this protocol type.
+// What stands after a GRE header of this protocol type.
 fn kind_by_protocol_type(number: u16) -> Next
     ensures { result ≡ kind_by_protocol_type number }
 {

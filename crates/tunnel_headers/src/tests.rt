@@ -1,3 +1,5 @@
+//! Headers from outside.
+
 use crate::{read_gre, read_vxlan};
 use field_table::{Head, Kind, Next};
 

@@ -1,3 +1,5 @@
+//! A folder in memory whose files fail where it is told to.
+
 ghost use Rattle.std.specs.Prelude.{◌≡◌, ◌<◌, map, MatchOption, IfErr};
 ghost use Rattle.ds_base.specs.Outside.{folder_of, file_named};
 ghost use Rattle.ds_base.specs.Files.{named_bytes};

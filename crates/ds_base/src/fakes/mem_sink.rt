@@ -1,3 +1,5 @@
+//! A sink in memory that fails where it is told to.
+
 ghost use Rattle.std.specs.Prelude.{◌≡◌, ◌<◌, []};
 ghost use Rattle.ds_base.specs.Outside.{sink_of};
 

@@ -1,3 +1,5 @@
+//! A source in memory that fails where it is told to.
+
 ghost use Rattle.std.specs.Prelude.{◌≡◌, ◌≢◌, ◌↔◌, IsTrue, ◌<◌, ◌≤◌, length, drop};
 ghost use Rattle.ds_base.specs.Outside.{source_of};
 

@@ -1,3 +1,5 @@
+//! A source, a sink and a folder in memory that never fail.
+
 ghost use Rattle.std.specs.Prelude.{◌≡◌, ◌≤◌, [], length, drop, map, false};
 ghost use Rattle.ds_base.specs.Outside.{source_of, folder_of};
 ghost use Rattle.ds_base.specs.Files.{named_bytes};
