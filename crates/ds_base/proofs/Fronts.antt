@@ -1,10 +1,11 @@
 -- Fronts of lists by a test.
-use Rattle.std.proofs.Common.{◌≡◌, ◌⊎◌, ◌++◌, Bool, true, false, List, [], ◌∷◌, cond, inl, inr, refl, sym, ap, subst, arith, ⊎_elim, ◌∙◌}
+use Rattle.std.proofs.Common.{◌≡◌, ◌⊎◌, ◌++◌, Bool, true, false, List, [], ◌∷◌, cond, inl, inr, refl, sym, ap, subst, arith, ⊎_elim, ◌∙◌, ℕ, zero, suc, ◌<◌, length, get_or}
 use Rattle.std.specs.Prelude.{IsTrue, ◌↔◌}
-use Rattle.std.specs.List.{AllByRecursion}
-use Rattle.ds_base.specs.Order.{Precedes}
+use Rattle.std.specs.List.{Contains}
+use Rattle.ds_base.specs.Order.{Precedes, PrecedesAll, InStampOrder}
 use Rattle.ds_base.specs.Fronts.{IsIn, upto, onward, BeginsPast, AreParted, PrecedesEach, InOrder, Falls, SameWhere, SameFront}
 use Rattle.ds_base.specs.declared.stamp.Stamp.{Stamp}
+use Rattle.ds_base.specs.declared.summary.Summary.{Summary}
 
 -- no stamp is before one that is before it
 pub not_both_ways : (a b : Stamp) → Precedes a b → Precedes b a → ⊥
@@ -84,3 +85,38 @@ module _ {X : Type 0} (at : X → Stamp) (p : X → Bool) where
       by_tests true false e f later = let first : x ≡ y = first_is x y xs ys hx hy falls same e in let g : p x ≡ p y = ap p first in cc
       by_tests false true e f later = let first : y ≡ x = first_is y x ys xs hy hx falls back f in let g : p y ≡ p x = ap p first in cc
       by_tests false false e f later = rw (e, f) refl
+
+-- ---- the same in other words
+
+-- stamps before all these summaries
+pub precedes_each : (at : Stamp) (ss : List Summary) → PrecedesAll at ss → PrecedesEach (λ (s : Summary). s.at) at ss
+precedes_each at [] h = tt
+precedes_each at (s ∷ ss) h = (h.0, precedes_each at ss h.1)
+
+-- summaries in stamp order are in the order of their stamps
+pub in_order : (ss : List Summary) → InStampOrder ss → InOrder (λ (s : Summary). s.at) ss
+in_order [] h = tt
+in_order (s ∷ ss) h = (precedes_each s.at ss h.0, in_order ss h.1)
+
+-- what is in a list, it contains at some place
+pub contains_in : {X : Type 0} (x : X) (xs : List X) → IsIn x xs → Contains xs x
+contains_in x [] h = absurd h
+contains_in x (y ∷ ys) (inl e) = let within : 0 < length (y ∷ ys) = omega arith in (0, within, sym e)
+contains_in x (y ∷ ys) (inr h) = let c = contains_in x ys h in (suc c.0, omega (arith, c.1), c.2)
+
+pub in_contains : {X : Type 0} (x : X) (xs : List X) → Contains xs x → IsIn x xs
+in_contains {X} x xs h = at_place xs h.0 h.1 h.2
+  where
+    at_place : (ys : List X) (k : ℕ) → k < length ys → get_or ys k x ≡ x → IsIn x ys
+    at_place [] k less at = absurd (omega (arith, less))
+    at_place (y ∷ ys) zero less at = inl (sym at)
+    at_place (y ∷ ys) (suc k) less at = inr (at_place ys k (omega (arith, less)) at)
+
+-- what comes after a list and fails the test adds nothing to its front
+pub front_more : {X : Type 0} (p : X → Bool) (xs ys : List X) → upto p ys ≡ [] → upto p (xs ++ ys) ≡ upto p xs
+front_more p [] ys none = none
+front_more {X} p (x ∷ xs) ys none = by_test (p x) refl (front_more p xs ys none)
+  where
+    by_test : (b : Bool) → p x ≡ b → upto p (xs ++ ys) ≡ upto p xs → upto p ((x ∷ xs) ++ ys) ≡ upto p (x ∷ xs)
+    by_test true e h = rw e (ap (λ (zs : List X). x ∷ zs) h)
+    by_test false e h = rw e refl
