@@ -1,6 +1,6 @@
 //! The line of a capture, and the last line.
 
-ghost use Rattle.std.specs.Prelude.{◌≡◌, ◌++◌, ◌<◌, length, IfOk, OnOk};
+ghost use Rattle.std.specs.Prelude.{◌≡◌, ◌++◌, ◌<◌, length, IfOk, OnOk, OnErr};
 ghost use Rattle.answer_text.specs.Lines.{capture_text, end_text, ending_of};
 
 use crate::pieces::{push_labelled, push_named};
@@ -20,13 +20,28 @@ pub fn capture_line(
     ensures { IfOk result (λ text. text.items ≡ capture_text names.now.captures.items capture counts.now) }
 {
     let mut text = Text::new(alloc);
-    push_capture_line(&mut text, names, capture, counts)?;
+    write_capture(&mut text, names, capture, counts)?;
     Ok(text)
 }
 
-/// Puts the line of a capture at the end of a text. Where it is refused for want of memory, a part of
-/// the line may stand there.
+/// Puts the line of a capture at the end of a text. It is refused for want of memory alone; then the
+/// text is as it was.
 pub fn push_capture_line(
+    text: &mut Text,
+    names: &Names,
+    capture: u32,
+    counts: &Counts,
+) -> Result<(), OutOfMemory>
+    requires { capture < length names.now.captures.items }
+    ensures pushed { OnOk result (text.new.items ≡ text.old.items ++ capture_text names.now.captures.items capture counts.now) }
+    ensures refused { OnErr result (text.new.items ≡ text.old.items) }
+{
+    let line = capture_line(text.allocator(), names, capture, counts)?;
+    text.push_str(line.as_str())
+}
+
+/// Puts the parts of the line one after the other. Some of them may stand there where it is refused.
+fn write_capture(
     text: &mut Text,
     names: &Names,
     capture: u32,
@@ -56,13 +71,22 @@ pub fn end_line(alloc: Global, groups: u64, summaries: u64) -> Result<Text, OutO
     ensures { IfOk result (λ text. text.items ≡ end_text groups summaries) }
 {
     let mut text = Text::new(alloc);
-    push_end_line(&mut text, groups, summaries)?;
+    write_end(&mut text, groups, summaries)?;
     Ok(text)
 }
 
-/// Puts the last line at the end of a text. Where it is refused for want of memory, a part of the line
-/// may stand there.
+/// Puts the last line at the end of a text. It is refused for want of memory alone; then the text is as
+/// it was.
 pub fn push_end_line(text: &mut Text, groups: u64, summaries: u64) -> Result<(), OutOfMemory>
+    ensures pushed { OnOk result (text.new.items ≡ text.old.items ++ end_text groups summaries) }
+    ensures refused { OnErr result (text.new.items ≡ text.old.items) }
+{
+    let line = end_line(text.allocator(), groups, summaries)?;
+    text.push_str(line.as_str())
+}
+
+/// Puts the parts of the line one after the other. Some of them may stand there where it is refused.
+fn write_end(text: &mut Text, groups: u64, summaries: u64) -> Result<(), OutOfMemory>
     ensures { OnOk result (text.new.items ≡ text.old.items ++ end_text groups summaries) }
 {
     push_labelled(text, "E groups=", groups)?;

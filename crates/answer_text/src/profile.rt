@@ -1,6 +1,6 @@
 //! The line of the delays between two capture points.
 
-ghost use Rattle.std.specs.Prelude.{◌≡◌, ◌++◌, ◌<◌, length, IfOk, OnOk};
+ghost use Rattle.std.specs.Prelude.{◌≡◌, ◌++◌, ◌<◌, length, IfOk, OnOk, OnErr};
 ghost use Rattle.std.specs.Fmt.{decimal};
 ghost use Rattle.answer_text.specs.Pieces.{joined};
 ghost use Rattle.answer_text.specs.Lines.{profile_text, class_texts, class_text, separator_of};
@@ -19,17 +19,28 @@ pub fn profile_line(alloc: Global, names: &Names, row: &ProfileRow) -> Result<Te
     ensures { IfOk result (λ text. text.items ≡ profile_text names.now.captures.items row.now) }
 {
     let mut text = Text::new(alloc);
-    push_profile_line(&mut text, names, row)?;
+    write_profile(&mut text, names, row)?;
     Ok(text)
 }
 
-/// Puts the line of the delays between two capture points at the end of a text. Where it is refused for
-/// want of memory, a part of the line may stand there.
+/// Puts the line of the delays between two capture points at the end of a text. It is refused for want
+/// of memory alone; then the text is as it was.
 pub fn push_profile_line(
     text: &mut Text,
     names: &Names,
     row: &ProfileRow,
 ) -> Result<(), OutOfMemory>
+    requires from { row.now.from < length names.now.captures.items }
+    requires to { row.now.to < length names.now.captures.items }
+    ensures pushed { OnOk result (text.new.items ≡ text.old.items ++ profile_text names.now.captures.items row.now) }
+    ensures refused { OnErr result (text.new.items ≡ text.old.items) }
+{
+    let line = profile_line(text.allocator(), names, row)?;
+    text.push_str(line.as_str())
+}
+
+/// Puts the parts of the line one after the other. Some of them may stand there where it is refused.
+fn write_profile(text: &mut Text, names: &Names, row: &ProfileRow) -> Result<(), OutOfMemory>
     requires from { row.now.from < length names.now.captures.items }
     requires to { row.now.to < length names.now.captures.items }
     ensures { OnOk result (text.new.items ≡ text.old.items ++ profile_text names.now.captures.items row.now) }

@@ -1,7 +1,7 @@
 //! A text that grows by refusable steps.
 
 ghost use Rattle.std.specs.Fmt.{decimal};
-ghost use Rattle.std.specs.Prelude.{◌≡◌, ◌==◌, ◌+◌, ◌<◌, [], ◌++◌, length, slice_get, OnOk, OnErr, IfErr, encode_utf8};
+ghost use Rattle.std.specs.Prelude.{◌≡◌, ◌==◌, ◌+◌, ◌<◌, ◌≤◌, [], ◌++◌, length, slice_get, IfOk, OnOk, OnErr, IfErr, encode_utf8};
 
 use crate::OutOfMemory;
 use itoa::Buffer;
@@ -33,6 +33,22 @@ impl Text {
         Text {
             text: String::new(alloc),
         }
+    }
+
+    /// The empty text with room for `bytes`, whose growth comes from `alloc`.
+    pub fn with_room(alloc: Global, bytes: u64) -> Result<Self, OutOfMemory>
+        ensures empty { IfOk result (λ text. text.items ≡ []) }
+        ensures room { IfOk result (λ text. bytes ≤ text.spare) }
+    {
+        match String::with_capacity(alloc, bytes as usize) {
+            Ok(text) => Ok(Text { text }),
+            Err(_) => Err(OutOfMemory),
+        }
+    }
+
+    /// Where its growth comes from.
+    pub fn allocator(&self) -> Global {
+        *self.text.allocator()
     }
 
     /// How many bytes there are.

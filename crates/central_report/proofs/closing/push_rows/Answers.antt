@@ -10,6 +10,6 @@ loop-i-preserved c =
     elim c.match-row.branch [
       | in-Some+in_ok-push_profile_line w ↦ one_more_piece (profile_text c.args.job.now.names.captures.items) c.args.profile.now c.loop-i.i w.in-Some.row c.loop-i.text.items _ _
           (sym c.row.ensures.value ∙ w.in-Some.is)
-          (ap (λ (text : Items ℕ). text.items) w.text-is ∙ w.in_ok-push_profile_line.ensures) c.loop-i.invariant
+          (ap (λ (text : Items ℕ). text.items) w.text-is ∙ w.in_ok-push_profile_line.ensures.pushed) c.loop-i.invariant
       | in_default w ↦ absurd (omega (arith, w.in_default.ensures.past.0 refl))
     ]

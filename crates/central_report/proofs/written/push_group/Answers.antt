@@ -8,4 +8,4 @@ pub returns : goal.returns
 returns c =
     on_ok_weaker c.push_answer_line.result
     (group_line c.args.job.now.names.captures.items (declared_of c.args.job.now).query (copies_of c.args.group.now) _ c.args.text.now.items _ c.requires.some c.answer_of-answer.ensures.answer)
-    c.push_answer_line.ensures
+    c.push_answer_line.ensures.pushed
