@@ -2,7 +2,8 @@ use Rattle.std.proofs.Common.{◌++◌, ◌∙◌, ap, sym, drop, append_assoc}
 use Rattle.std.specs.Fmt.{decimal}
 use Rattle.std.specs.List.{flat_map}
 use Rattle.answer_text.specs.Pieces.{behind}
-use Rattle.answer_text.proofs.Lists.{joined_numbers, one_more_piece}
+use Rattle.ds_base.proofs.Places.{one_more_piece}
+use Rattle.answer_text.proofs.Lists.{joined_numbers}
 use Rattle.answer_text.proofs.pieces.push_numbers.Goals as goal
 
 pub loop-i-init : goal.loop-i-init
