@@ -16,6 +16,6 @@ pub struct ProfileRow {
     pub least: u64,
     /// The greatest of them.
     pub greatest: u64,
-    /// How many of them have each number of binary digits, from 0 (a delay of 0) to 63.
+    /// How many of them are of each class, 0 to 63: the least k with the delay below 2^k.
     pub classes: [u64; 64],
 }

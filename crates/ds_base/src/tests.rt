@@ -1,9 +1,8 @@
 //! The happy path of each call, and the failures of the objects in memory.
 
 use crate::{
-    Choice, Chooser, Failed, FileList, Folder, Gate, ItemList, KeyList, ListChooser, MemFolder,
-    MemSink, MemSource, NamedFile, NoFile, Nums, OpenGate, PipeRx, PipeTx, Sink, Source,
-    SureFolder, SureSink, SureSource, Text,
+    Failed, FileList, Folder, Gate, ItemList, KeyList, MemFolder, MemSink, MemSource, NamedFile,
+    NoFile, Nums, OpenGate, PipeRx, PipeTx, Sink, Source, SureFolder, SureSink, SureSource, Text,
 };
 use std::alloc::{AllocError, Global};
 use std::test::Fail;
@@ -51,6 +50,8 @@ fn a_list_keeps_its_items_in_order(rt: HostRuntime) -> Result<(), Fail> {
     assert_eq!(rt; list.pop(), Some(5));
     assert_eq!(rt; list.pop(), Some(4));
     assert_eq!(rt; list.pop(), None);
+    list.destroy_empty();
+    OpenGate.pass(0);
     Ok(())
 }
 
@@ -68,6 +69,7 @@ fn a_text_takes_characters_pieces_and_numbers(rt: HostRuntime) -> Result<(), Fai
         "é=0 340282366920938463463374607431768211455"
     );
     assert_eq!(rt; text.len(), 44);
+    assert_eq!(rt; *text.get(2), b'=');
     Ok(())
 }
 
@@ -84,9 +86,7 @@ fn numbers_are_kept_and_compared_as_a_list(rt: HostRuntime) {
 }
 
 #[test]
-fn a_source_gives_its_bytes_in_pieces_and_fails_where_it_is_told(
-    rt: HostRuntime,
-) -> Result<(), Fail> {
+fn objects_in_memory_move_pieces_and_fail_where_they_are_told(rt: HostRuntime) -> Result<(), Fail> {
     let bytes = b"abcde".to_vec(rt.alloc())?;
     let mut source = MemSource::new(bytes, 2, numbers(rt.alloc(), &[1])?);
     let mut buf = [0u8; 4];
@@ -97,11 +97,6 @@ fn a_source_gives_its_bytes_in_pieces_and_fails_where_it_is_told(
     assert_eq!(rt; source.read(&mut buf), Ok(1));
     assert_eq!(rt; buf[0], b'e');
     assert_eq!(rt; source.read(&mut buf), Ok(0));
-    Ok(())
-}
-
-#[test]
-fn a_sink_keeps_what_it_took_and_fails_where_it_is_told(rt: HostRuntime) -> Result<(), Fail> {
     let mut sink = MemSink::new(rt.alloc(), 3, numbers(rt.alloc(), &[1])?);
     assert_eq!(rt; sink.write(b"report"), Ok(3));
     assert_eq!(rt; sink.write(b"ort"), Err(Failed));
@@ -139,16 +134,6 @@ fn the_sure_objects_never_fail(rt: HostRuntime) -> Result<(), Fail> {
     };
     folder.give_back(opened);
     assert_eq!(rt; SureSink::new().write(b"all of it"), Ok(9));
-    Ok(())
-}
-
-#[test]
-fn a_chooser_gives_its_list_and_then_none(rt: HostRuntime) -> Result<(), Fail> {
-    let first = Choice { node: 2, cut: 1 };
-    let mut chooser = ListChooser::new(vec![in rt.alloc(); first]?);
-    assert_eq!(rt; chooser.next(), Some(first));
-    assert_eq!(rt; chooser.next(), None);
-    OpenGate.pass(0);
     Ok(())
 }
 
