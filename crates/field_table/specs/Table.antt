@@ -5,12 +5,12 @@ use Rattle.field_table.specs.declared.forms.Form.TheVariants.{Dec, Hex, Mac, Add
 use Rattle.field_table.specs.declared.kind.Kind.{Kind}
 use Rattle.field_table.specs.declared.kind.Kind.TheVariants.{Eth, Tag, Ipv4, Ipv6, Ext, Frag, Tcp, Udp, Icmp, Icmp6, Gre, Vxlan}
 use Rattle.field_table.specs.declared.layout.Layout.{Layout}
-use Rattle.field_table.specs.declared.layout.Place.{Place}
-use Rattle.field_table.specs.declared.layout.Place.TheVariants.{At, Checksum, Key, Sequence}
+use Rattle.field_table.specs.declared.layout.Start.{Start}
+use Rattle.field_table.specs.declared.layout.Start.TheVariants.{At, Checksum, Key, Sequence}
 
 -- a row: the name of a field, where its first bit is, how many bits it has, and how its number is printed
-abbrev pub row : List ℕ → Place → ℕ → Form → List ℕ × Layout
-row name place bits form = (name, record { place = place; bits = bits; form = form })
+abbrev pub row : List ℕ → Start → ℕ → Form → List ℕ × Layout
+row name start bits form = (name, record { start = start; bits = bits; form = form })
 
 -- ICMP (RFC 792) and ICMPv6 (RFC 4443 section 2.1)
 abbrev pub icmp_rows : List (List ℕ × Layout)

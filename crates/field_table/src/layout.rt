@@ -5,7 +5,7 @@ use crate::forms::Form;
 /// Where the bits of a field begin in its header. Bits are counted from 0, the most significant bit
 /// of the first byte.
 #[derive(Clone, Copy, Debug, PartialEq, Eq)]
-pub enum Place {
+pub enum Start {
     /// At this bit in every header of the kind.
     At(u16),
     /// In GRE after the first four bytes, where the bit C is set (RFC 2784 section 2.1).
@@ -20,7 +20,7 @@ pub enum Place {
 #[derive(Clone, Copy, Debug, PartialEq, Eq)]
 pub struct Layout {
     /// Where its bits begin.
-    pub place: Place,
+    pub start: Start,
     /// How many bits it has, 1 to 128.
     pub bits: u8,
     /// How its number is printed.

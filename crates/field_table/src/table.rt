@@ -6,12 +6,12 @@ ghost use Rattle.field_table.specs.Table.{layouts_of, names_of};
 use crate::forms::Form::{Addr4, Addr6, Dec, Hex, Mac};
 use crate::kind::Kind;
 use crate::layout::Layout;
-use crate::layout::Place::{At, Checksum, Key, Sequence};
+use crate::layout::Start::{At, Checksum, Key, Sequence};
 
 // A row: the field's name, where its first bit is, how many bits it has, and its form.
 macro_rules! row {
-    ($name:literal, $place:expr, $bits:literal, $form:expr) => {
-        ($name, Layout { place: $place, bits: $bits, form: $form })
+    ($name:literal, $start:expr, $bits:literal, $form:expr) => {
+        ($name, Layout { start: $start, bits: $bits, form: $form })
     };
 }
 

@@ -7,7 +7,7 @@ ghost use Rattle.field_table.specs.Table.{layouts_of, names_of};
 
 use crate::bits::bits_at;
 use crate::kind::Kind;
-use crate::layout::{Layout, Place};
+use crate::layout::{Layout, Start};
 use crate::table::rows;
 
 /// The number of a field in the bytes of one header of its kind. None where its bits do not all lie
@@ -18,7 +18,7 @@ pub fn value(kind: Kind, field: u8, slice: &[u8]) -> Option<u128>
     ensures { result ≡ value_of kind field slice.now }
 {
     let layout = layout(kind, field);
-    let first = first_bit(layout.place, slice)?;
+    let first = first_bit(layout.start, slice)?;
     let end = (first as usize + layout.bits as usize + 7) / 8;
     if slice.len() < end {
         return None;
@@ -36,14 +36,14 @@ pub(crate) fn layout(kind: Kind, field: u8) -> Layout
 
 /// The first bit of a field in these bytes of a header.
 #[tactic(auto, unfolding(crate::specs::Fields::first_bit))]
-fn first_bit(place: Place, slice: &[u8]) -> Option<u16>
-    ensures { result ≡ first_bit place slice.now }
+fn first_bit(start: Start, slice: &[u8]) -> Option<u16>
+    ensures { result ≡ first_bit start slice.now }
 {
-    match place {
-        Place::At(first) => Some(first),
-        Place::Checksum if bit_at(slice, 0) == 1 => Some(32),
-        Place::Key if bit_at(slice, 2) == 1 => Some(32 + 32 * bit_at(slice, 0)),
-        Place::Sequence if bit_at(slice, 3) == 1 => {
+    match start {
+        Start::At(first) => Some(first),
+        Start::Checksum if bit_at(slice, 0) == 1 => Some(32),
+        Start::Key if bit_at(slice, 2) == 1 => Some(32 + 32 * bit_at(slice, 0)),
+        Start::Sequence if bit_at(slice, 3) == 1 => {
             Some(32 + 32 * bit_at(slice, 0) + 32 * bit_at(slice, 2))
         }
         _ => None,

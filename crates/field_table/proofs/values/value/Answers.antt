@@ -18,7 +18,7 @@ bits_at-requires-clause-some c = (row_fits c.args.kind c.args.field c.layout-lay
 pub bits_at-requires-clause-narrow : goal.bits_at-requires-clause-narrow
 bits_at-requires-clause-narrow c =
     let fits = row_fits c.args.kind c.args.field c.layout-layout.result c.layout-layout.ensures in
-    let before = before_first c.layout-layout.result.place c.args.slice.now c.in_ok-first.first (sym c.first_bit.ensures ∙ c.in_ok-first.was) in
+    let before = before_first c.layout-layout.result.start c.args.slice.now c.in_ok-first.first (sym c.first_bit.ensures ∙ c.in_ok-first.was) in
     omega arith
 
 pub returns : goal.returns
