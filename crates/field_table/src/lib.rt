@@ -32,6 +32,3 @@ pub use names::kind_name;
 pub use next_kinds::{kind_by_ethernet_type, kind_by_next_header, kind_by_protocol};
 pub use printing::{print_field, print_value};
 pub use values::value;
-
-#[cfg(test)]
-mod tests;

@@ -16,6 +16,3 @@ pub use frag::read_frag;
 pub use ipv4::read_ipv4;
 pub use ipv6::read_ipv6;
 pub use tag::read_tag;
-
-#[cfg(test)]
-mod tests;

@@ -6,8 +6,6 @@
 mod icmp;
 mod icmp6;
 mod tcp;
-#[cfg(test)]
-mod tests;
 mod udp;
 
 pub use icmp::read_icmp;

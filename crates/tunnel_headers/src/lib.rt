@@ -4,8 +4,6 @@
 #![tactic(auto)]
 
 mod gre;
-#[cfg(test)]
-mod tests;
 mod vxlan;
 
 pub use gre::read_gre;

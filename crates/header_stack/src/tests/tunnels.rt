@@ -1,7 +1,7 @@
-//! Headers from outside.
+//! The headers of GRE and VXLAN, from outside.
 
-use crate::{read_gre, read_vxlan};
 use field_table::{Head, Kind, Next};
+use tunnel_headers::{read_gre, read_vxlan};
 
 fn head(len: u32, kind: Kind, limit: u32) -> Option<Head> {
     let next = Next::Header(kind);

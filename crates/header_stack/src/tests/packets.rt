@@ -1,7 +1,7 @@
-//! Headers from outside, and each limit.
+//! The headers of Ethernet, tags, IPv4 and IPv6, and each of their limits.
 
-use crate::{read_eth, read_ext, read_frag, read_ipv4, read_ipv6, read_tag};
 use field_table::{Head, Kind, Next};
+use packet_headers::{read_eth, read_ext, read_frag, read_ipv4, read_ipv6, read_tag};
 
 fn head(len: u32, next: Next, limit: u32) -> Option<Head> {
     Some(Head { len, next, limit })
@@ -110,7 +110,7 @@ fn ipv4_is_as_long_as_it_says_and_names_its_protocol(rt: HostRuntime) {
 }
 
 #[test]
-fn ipv6_ends_forty_bytes_behind_its_payload_length(rt: HostRuntime) {
+fn ipv6_ends_forty_bytes_after_its_payload_length(rt: HostRuntime) {
     let rows = [
         (0x60, 8, 48, head(40, Next::Header(Kind::Udp), 48)),
         (0x60, 7, 48, head(40, Next::Header(Kind::Udp), 47)),

@@ -1,6 +1,6 @@
-//! Texts and numbers of fields from outside.
+//! Texts and numbers of fields, from outside.
 
-use crate::{Form, field, form, kind_name, print_field, print_value, value};
+use field_table::{Form, field, form, kind_name, print_field, print_value, value};
 use std::test::Fail;
 
 // A header of forty bytes that no two fields read alike; as GRE it has all three optional words.

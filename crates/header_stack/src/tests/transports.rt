@@ -1,7 +1,7 @@
-//! Headers from outside.
+//! The headers of TCP, UDP and ICMP, from outside.
 
-use crate::{read_icmp, read_icmp6, read_tcp, read_udp};
 use field_table::{Head, Kind, Next};
+use transport_headers::{read_icmp, read_icmp6, read_tcp, read_udp};
 
 fn head(len: u32, next: Next, limit: u32) -> Option<Head> {
     Some(Head { len, next, limit })
