@@ -166,11 +166,3 @@ fn a_walk_that_no_pattern_allows_leaves_its_path_somewhere(rt: HostRuntime) -> R
     }
     Ok(())
 }
-
-#[test]
-fn a_pattern_gives_its_steps_back(rt: HostRuntime) {
-    let kept = pattern(&[S1, ONE, MANY]);
-    assert_eq!(rt; kept.len(), 3);
-    assert_eq!(rt; kept.get(0), S1);
-    assert_eq!(rt; kept.get(2), MANY);
-}
