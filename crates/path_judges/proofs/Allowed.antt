@@ -2,13 +2,13 @@ use Rattle.std.proofs.Common.{◌≡◌, ℕ, zero, suc, ◌+◌, ◌<◌, ◌�
 use Rattle.std.specs.List.{list_any}
 use Rattle.std.proofs.lemmas.List.Folds.{Any-from_list_any, list_any-from_Any}
 use Rattle.std.proofs.lemmas.Bool.{false≢true, cases_lt}
+use Rattle.ds_base.proofs.Places.{take_at}
 use Rattle.ds_base.specs.declared.verdict.Verdict.{Verdict}
 use Rattle.ds_base.specs.declared.verdict.Verdict.TheVariants.{Fine, Path}
 use Rattle.path_judges.specs.declared.pattern.Step.{Step}
 use Rattle.path_judges.specs.Pattern.{matches, begun}
 use Rattle.path_judges.specs.Path.{IsAllowed, LeavesAt, IsPathVerdict, most_begun, path_verdict}
 use Rattle.path_judges.proofs.Places.{list_any-here, list_any-next}
-use Rattle.path_judges.proofs.Found.{take-here}
 use Rattle.path_judges.proofs.Walks.{Matches-from_test, test-from_Matches, Begins-from_begun, begun-from_Begins, begun-le}
 
 IsAllowed-from_test : (patterns : List (List Step)) (walk : List ℕ) → list_any (λ steps. matches steps walk) patterns ≡ true → IsAllowed patterns walk
@@ -97,13 +97,10 @@ most_begun-push : (patterns : List (List Step)) (walk : List ℕ) (steps : List 
 most_begun-push [] walk steps = omega arith
 most_begun-push (front ∷ patterns) walk steps = let m = most_begun-push patterns walk steps in omega arith
 
-pub Tried-start : (patterns : List (List Step)) (walk : List ℕ) → Tried patterns walk 0 0
-Tried-start patterns walk = record { none_matches = refl; most = refl }
-
 pub Tried-next : (patterns : List (List Step)) (walk : List ℕ) (i at : ℕ) (steps : List Step) → Tried patterns walk i at → slice_get patterns i ≡ Some steps → matches steps walk ≡ false → Tried patterns walk (i + 1) (max at (begun steps walk))
 Tried-next patterns walk i at steps t here fails = record {
   none_matches = list_any-next (λ (ss : List Step). matches ss walk) patterns i steps here t.none_matches fails;
-  most = ap (λ n. max n (begun steps walk)) t.most ∙ sym (most_begun-push (take i patterns) walk steps) ∙ ap (λ ps. most_begun ps walk) (sym (take-here patterns i steps here));
+  most = ap (λ n. max n (begun steps walk)) t.most ∙ sym (most_begun-push (take i patterns) walk steps) ∙ ap (λ ps. most_begun ps walk) (sym (take_at patterns i steps here));
 }
 
 pub Tried-fine : (patterns : List (List Step)) (walk : List ℕ) (i : ℕ) (steps : List Step) → slice_get patterns i ≡ Some steps → matches steps walk ≡ true → Fine ≡ path_verdict patterns walk

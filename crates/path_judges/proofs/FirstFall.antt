@@ -4,12 +4,13 @@ use Rattle.std.proofs.lemmas.List.{append-nil, length-append}
 use Rattle.std.proofs.lemmas.Option.{none-some, same_Some, slice_get_within}
 use Rattle.std.proofs.lemmas.Bool.{false≢true, cases_lt}
 use Rattle.std.proofs.lemmas.Bool.Decides.{nat_tests}
+use Rattle.ds_base.proofs.Places.{at_left, at_seam}
 use Rattle.ds_base.specs.declared.summary.Summary.{Summary}
 use Rattle.ds_base.specs.declared.verdict.Verdict.{Verdict}
 use Rattle.ds_base.specs.declared.verdict.Verdict.TheVariants.{Fine, Loop}
 use Rattle.path_judges.specs.Members.{capture_of, value_of}
 use Rattle.path_judges.specs.Loop.{Falls, IsFirstFall, NeverFalls, IsLoopVerdict, is_above, loop_at, loop_after, loop_verdict}
-use Rattle.path_judges.proofs.Found.{slice_get-left, slice_get-seam, find-none, find-found, FoundAt}
+use Rattle.path_judges.proofs.Found.{find-none, find-found, FoundAt}
 
 -- the test of a member above another, in words
 above-true : (b : Bool) (v w : ℕ) → (b && nat_lt v w) ≡ true → (b ≡ true) × (v < w)
@@ -31,8 +32,8 @@ is_above-of hop low member same lt =
 Falls-left : (hop : ℕ) (seen rest : List Summary) (i j : ℕ) (high low : Summary) → Falls hop (seen ++ rest) i j high low → j < length seen → Falls hop seen i j high low
 Falls-left hop seen rest i j high low f lt = record {
   below = f.below;
-  member_i = sym (slice_get-left seen rest i (omega (arith, f.below))) ∙ f.member_i;
-  member_j = sym (slice_get-left seen rest j lt) ∙ f.member_j;
+  member_i = sym (at_left seen rest i (omega (arith, f.below))) ∙ f.member_i;
+  member_j = sym (at_left seen rest j lt) ∙ f.member_j;
   one_capture = f.one_capture;
   exceeds = f.exceeds;
 }
@@ -41,10 +42,10 @@ Falls-left hop seen rest i j high low f lt = record {
 Falls-seam : (hop : ℕ) (seen rest : List Summary) (member : Summary) (i : ℕ) (high low : Summary) → Falls hop (seen ++ member ∷ rest) i (length seen) high low
     → (slice_get seen i ≡ Some high) × (low ≡ member) × (is_above hop member high ≡ true)
 Falls-seam hop seen rest member i high low f =
-    let here : low ≡ member = same_Some low member (sym f.member_j ∙ slice_get-seam seen rest member) in
+    let here : low ≡ member = same_Some low member (sym f.member_j ∙ at_seam seen rest member) in
     let one : capture_of high ≡ capture_of member = f.one_capture ∙ ap capture_of here in
     let less : value_of hop member < value_of hop high = let P : Summary → Type 0 = λ m. value_of hop m < value_of hop high in subst P here f.exceeds in
-    (sym (slice_get-left seen (member ∷ rest) i f.below) ∙ f.member_i, here, is_above-of hop member high one less)
+    (sym (at_left seen (member ∷ rest) i f.below) ∙ f.member_i, here, is_above-of hop member high one less)
 
 NeverFalls-next : (hop : ℕ) (seen : List Summary) (member : Summary) → NeverFalls hop seen → find (is_above hop member) seen ≡ None → NeverFalls hop (seen ++ member ∷ [])
 NeverFalls-next hop seen member never none i j high low f =
@@ -71,8 +72,8 @@ IsFirstFall-here hop seen rest member high never found =
       at_j = member;
       falls = record {
         below = within;
-        member_i = slice_get-left seen (member ∷ rest) found.place within ∙ found.at_place;
-        member_j = slice_get-seam seen rest member;
+        member_i = at_left seen (member ∷ rest) found.place within ∙ found.at_place;
+        member_j = at_seam seen rest member;
         one_capture = above.0;
         exceeds = above.1;
       };

@@ -2,12 +2,12 @@ use Rattle.std.proofs.Common.{◌≡◌, ℕ, suc, ◌+◌, ◌≤◌, true, fal
 use Rattle.std.specs.Option.{option_map}
 use Rattle.std.proofs.lemmas.Option.{slice_get_within, slice_get-map}
 use Rattle.std.proofs.lemmas.List.{length-drop}
+use Rattle.ds_base.proofs.Places.{drop_at}
 use Rattle.ds_base.specs.declared.summary.Summary.{Summary}
 use Rattle.path_judges.specs.declared.pattern.Step.{Step}
 use Rattle.path_judges.specs.Members.{capture_of, walk_of}
 use Rattle.path_judges.specs.Pattern.{begun}
 use Rattle.path_judges.specs.Open.{is_many, admits}
-use Rattle.path_judges.proofs.Found.{drop-here}
 use Rattle.path_judges.proofs.Rise.{drop-eq_nil}
 use Rattle.path_judges.proofs.Steps.{begun-nil, begun-cons, begun-many}
 
@@ -24,13 +24,10 @@ pub record Followed (steps : List Step) (walk : List ℕ) (k : ℕ) : Type 0 whe
   pub within : k ≤ length walk
   pub rest : k + begun (drop k steps) (drop k walk) ≡ begun steps walk
 
-pub Followed-start : (steps : List Step) (walk : List ℕ) → Followed steps walk 0
-Followed-start steps walk = record { within = omega arith; rest = omega arith }
-
 pub Followed-many : (steps : List Step) (walk : List ℕ) (k : ℕ) (step : Step) → Followed steps walk k → slice_get steps k ≡ Some step → is_many step ≡ true → length walk ≡ begun steps walk
 Followed-many steps walk k step f at many =
     let all : begun (drop k steps) (drop k walk) ≡ length (drop k walk) =
-    ap (λ ss. begun ss (drop k walk)) (drop-here steps k step at) ∙ begun-many step (drop (k + 1) steps) (drop k walk) many in
+    ap (λ ss. begun ss (drop k walk)) (drop_at steps k step at) ∙ begun-many step (drop (k + 1) steps) (drop k walk) many in
     omega (arith, f.within, f.rest, length-drop k walk)
 
 pub Followed-last : (steps : List Step) (walk : List ℕ) (k : ℕ) → Followed steps walk k → length walk ≤ k → k ≡ begun steps walk
@@ -46,8 +43,8 @@ Followed-done steps walk k f le =
 begun-here : (steps : List Step) (walk : List ℕ) (k : ℕ) (step : Step) (capture : ℕ) → slice_get steps k ≡ Some step → is_many step ≡ false → slice_get walk k ≡ Some capture
     → begun (drop k steps) (drop k walk) ≡ cond (admits step capture) (suc (begun (drop (k + 1) steps) (drop (k + 1) walk))) 0
 begun-here steps walk k step capture at one here =
-    ap (λ ss. begun ss (drop k walk)) (drop-here steps k step at)
-    ∙ ap (begun (step ∷ drop (k + 1) steps)) (drop-here walk k capture here)
+    ap (λ ss. begun ss (drop k walk)) (drop_at steps k step at)
+    ∙ ap (begun (step ∷ drop (k + 1) steps)) (drop_at walk k capture here)
     ∙ begun-cons step (drop (k + 1) steps) capture (drop (k + 1) walk) one
 
 pub Followed-stop : (steps : List Step) (walk : List ℕ) (k : ℕ) (step : Step) (capture : ℕ) → Followed steps walk k → slice_get steps k ≡ Some step → is_many step ≡ false → slice_get walk k ≡ Some capture → admits step capture ≡ false → k ≡ begun steps walk

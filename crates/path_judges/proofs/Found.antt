@@ -1,32 +1,7 @@
-use Rattle.std.proofs.Common.{◌≡◌, ℕ, zero, suc, ◌+◌, ◌<◌, Bool, true, false, List, [], ◌∷◌, ◌++◌, Option, Some, None, length, take, drop, refl, sym, ap, ◌∙◌, arith, slice_get, cond}
+use Rattle.std.proofs.Common.{◌≡◌, ℕ, zero, suc, ◌+◌, ◌<◌, Bool, true, false, List, [], ◌∷◌, ◌++◌, Option, Some, None, take, refl, sym, ap, ◌∙◌, arith, slice_get, cond}
 use Rattle.std.specs.List.{find}
-use Rattle.std.proofs.lemmas.Option.{none-some, same_Some, slice_get_within, get_or_from_slice_get}
-use Rattle.std.proofs.Math.Seq.{take-suc, drop-cons}
-use Rattle.std.proofs.Math.Numerals.{add-one}
-
--- the item at a place stands before those after it
-pub drop-here : {X : Type 0} (xs : List X) (i : ℕ) (x : X) → slice_get xs i ≡ Some x → drop i xs ≡ x ∷ drop (i + 1) xs
-drop-here xs i x e =
-    let here = get_or_from_slice_get xs i x x e in
-    let within = slice_get_within xs i x e in
-    drop-cons xs i x within ∙ ap (λ y. y ∷ drop (suc i) xs) here ∙ ap (λ n. x ∷ drop n xs) (sym (add-one i))
-
--- and after those before it
-pub take-here : {X : Type 0} (xs : List X) (i : ℕ) (x : X) → slice_get xs i ≡ Some x → take (i + 1) xs ≡ take i xs ++ x ∷ []
-take-here xs i x e =
-    let here = get_or_from_slice_get xs i x x e in
-    let within = slice_get_within xs i x e in
-    ap (λ n. take n xs) (add-one i) ∙ take-suc xs i x within ∙ ap (λ y. take i xs ++ y ∷ []) here
-
--- the place of an item in the first of two joined lists
-pub slice_get-left : {X : Type 0} (xs ys : List X) (i : ℕ) → i < length xs → slice_get (xs ++ ys) i ≡ slice_get xs i
-slice_get-left [] ys i lt = absurd (omega arith)
-slice_get-left (x ∷ xs) ys zero lt = refl
-slice_get-left (x ∷ xs) ys (suc i) lt = slice_get-left xs ys i (omega arith)
-
-pub slice_get-seam : {X : Type 0} (xs ys : List X) (y : X) → slice_get (xs ++ y ∷ ys) (length xs) ≡ Some y
-slice_get-seam [] ys y = refl
-slice_get-seam (x ∷ xs) ys y = slice_get-seam xs ys y
+use Rattle.std.proofs.lemmas.Option.{none-some, same_Some}
+use Rattle.ds_base.proofs.Places.{take_at}
 
 -- nothing found, and so not at the front
 find-cons_none : {X : Type 0} (b : Bool) (y : X) (rest : Option X) → cond b (Some y) rest ≡ None → (b ≡ false) × (rest ≡ None)
@@ -42,7 +17,7 @@ find-push p (y ∷ ys) x none fails =
 
 -- an item that fails the test is passed over
 pub find-next : {X : Type 0} (p : X → Bool) (xs : List X) (i : ℕ) (x : X) → slice_get xs i ≡ Some x → find p (take i xs) ≡ None → p x ≡ false → find p (take (i + 1) xs) ≡ None
-find-next p xs i x e before fails = ap (find p) (take-here xs i x e) ∙ find-push p (take i xs) x before fails
+find-next p xs i x e before fails = ap (find p) (take_at xs i x e) ∙ find-push p (take i xs) x before fails
 
 -- the first item that passes the test is the one found
 pub find-here : {X : Type 0} (p : X → Bool) (xs : List X) (i end : ℕ) (x : X) → slice_get xs i ≡ Some x → find p (take i xs) ≡ None → p x ≡ true → i < end → find p (take end xs) ≡ Some x

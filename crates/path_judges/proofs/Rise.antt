@@ -5,12 +5,12 @@ use Rattle.std.proofs.lemmas.Option.{none-some, same_Some}
 use Rattle.std.proofs.lemmas.List.{get_or-set_other, get_or-set_same, get_or-replicate, length-set}
 use Rattle.std.proofs.lemmas.Bool.Decides.{nat_tests}
 use Rattle.std.proofs.lemmas.Bool.{cases_eq}
+use Rattle.ds_base.proofs.Places.{drop_at, take_at}
 use Rattle.ds_base.specs.declared.summary.Summary.{Summary}
 use Rattle.ds_base.specs.declared.verdict.Verdict.{Verdict}
 use Rattle.ds_base.specs.declared.verdict.Verdict.TheVariants.{Fine, Loop}
 use Rattle.path_judges.specs.Members.{capture_of, value_of}
 use Rattle.path_judges.specs.Loop.{is_above, loop_at, loop_after, loop_verdict}
-use Rattle.path_judges.proofs.Found.{drop-here, take-here}
 
 pub drop-eq_nil : {X : Type 0} (xs : List X) (j : ℕ) → length xs ≤ j → drop j xs ≡ []
 drop-eq_nil [] zero h = refl
@@ -103,20 +103,20 @@ tops-next hop members j member greatest s at within le capture lt (inl same) =
     ∙ get_or-set_same greatest (capture_of member) (value_of hop member) 0 wide
     ∙ sym (tops-same hop (take j members) member (omega arith))
     ∙ ap (λ c. greatest_of hop c (take j members ++ member ∷ [])) (sym same)
-    ∙ ap (greatest_of hop capture) (sym (take-here members j member at))
+    ∙ ap (greatest_of hop capture) (sym (take_at members j member at))
 tops-next hop members j member greatest s at within le capture lt (inr other) =
     get_or-set_other greatest (capture_of member) capture (value_of hop member) 0 other
     ∙ s.tops capture lt
     ∙ sym (tops-other hop capture (take j members) member (λ e. other (sym e)))
-    ∙ ap (greatest_of hop capture) (sym (take-here members j member at))
+    ∙ ap (greatest_of hop capture) (sym (take_at members j member at))
 
 -- the verdict to come, at a member that no earlier one is above
 rest-next : (hop : ℕ) (members : List Summary) (j : ℕ) (member : Summary) → slice_get members j ≡ Some member → find (is_above hop member) (take j members) ≡ None
     → loop_after hop (take j members) (drop j members) ≡ loop_after hop (take (j + 1) members) (drop (j + 1) members)
 rest-next hop members j member at none =
-    ap (loop_after hop (take j members)) (drop-here members j member at)
+    ap (loop_after hop (take j members)) (drop_at members j member at)
     ∙ ap (λ f. loop_at hop member f (loop_after hop (take j members ++ member ∷ []) (drop (j + 1) members))) none
-    ∙ ap (λ seen. loop_after hop seen (drop (j + 1) members)) (sym (take-here members j member at))
+    ∙ ap (λ seen. loop_after hop seen (drop (j + 1) members)) (sym (take_at members j member at))
 
 pub Scanned-next : (hop : ℕ) (members : List Summary) (j : ℕ) (member : Summary) (greatest : List ℕ) → Scanned hop members j greatest → slice_get members j ≡ Some member → capture_of member < 64
     → get_or greatest (capture_of member) 0 ≤ value_of hop member
@@ -143,7 +143,7 @@ pub Scanned-loop : (hop : ℕ) (members : List Summary) (j : ℕ) (member : Summ
     → Loop (capture_of member) high (value_of hop member) ≡ loop_verdict hop members
 Scanned-loop hop members j member greatest high s at e =
     sym (loop_at-some hop member (find (is_above hop member) (take j members)) (loop_after hop (take j members ++ member ∷ []) (drop (j + 1) members)) high e)
-    ∙ ap (loop_after hop (take j members)) (sym (drop-here members j member at))
+    ∙ ap (loop_after hop (take j members)) (sym (drop_at members j member at))
     ∙ s.rest
 
 pub Scanned-end : (hop : ℕ) (members : List Summary) (j : ℕ) (greatest : List ℕ) → Scanned hop members j greatest → length members ≤ j → Fine ≡ loop_verdict hop members

@@ -3,11 +3,11 @@ use Rattle.std.proofs.lemmas.List.{get_or-set_other, get_or-set_same, get_or-rep
 use Rattle.std.proofs.lemmas.Bool.{false≢true, cases_eq}
 use Rattle.std.proofs.lemmas.Option.{slice_get_within}
 use Rattle.std.proofs.Math.Numerals.{add-one}
+use Rattle.ds_base.proofs.Places.{drop_at}
 use Rattle.path_judges.specs.declared.pattern.Step.{Step}
 use Rattle.path_judges.specs.declared.pattern.Step.TheVariants.{Point, One, Many}
 use Rattle.path_judges.specs.Pattern.{matches, begun}
 use Rattle.path_judges.specs.Open.{IsOpen, is_many, admits, opens}
-use Rattle.path_judges.proofs.Found.{drop-here}
 
 -- what a step adds to the steps after it
 pub matches-nil : (step : Step) (steps : List Step) → matches (step ∷ steps) [] ≡ (is_many step && matches steps [])
@@ -85,7 +85,7 @@ OpenFrom-nil steps n k step open_at here turn most at o is =
     (is
     ∙ ap (λ b. is_many step && b) (o.each (k + 1) (omega arith) (omega arith))
     ∙ sym (matches-nil step (drop (k + 1) steps))
-    ∙ ap (λ ss. matches ss []) (sym (drop-here steps k step at)))
+    ∙ ap (λ ss. matches ss []) (sym (drop_at steps k step at)))
 
 pub OpenFrom-cons : (steps : List Step) (capture : ℕ) (rest : List ℕ) (n k : ℕ) (step : Step) (after open_at : List Bool) (here : Bool) → n ≡ k + 1 → length steps ≤ 32 → slice_get steps k ≡ Some step → IsOpen steps rest after → OpenFrom steps (capture ∷ rest) n open_at
     → here ≡ opens step capture (get_or after (k + 1) false) (get_or open_at (k + 1) false) (get_or after k false)
@@ -95,14 +95,14 @@ OpenFrom-cons steps capture rest n k step after open_at here turn most at a o is
     let P : ℕ → Type 0 = λ m. OpenFrom steps (capture ∷ rest) m open_at in
     let next_after = a.each (k + 1) (omega arith) in
     let next = o.each (k + 1) (omega arith) (omega arith) in
-    let own_after = a.each k (omega arith) ∙ ap (λ ss. matches ss rest) (drop-here steps k step at) in
+    let own_after = a.each k (omega arith) ∙ ap (λ ss. matches ss rest) (drop_at steps k step at) in
     OpenFrom-below steps (capture ∷ rest) k here open_at (subst P (turn ∙ add-one k) o) (omega arith)
     (is
     ∙ ap (λ b. opens step capture b (get_or open_at (k + 1) false) (get_or after k false)) next_after
     ∙ ap (λ b. opens step capture (matches (drop (k + 1) steps) rest) b (get_or after k false)) next
     ∙ ap (λ b. opens step capture (matches (drop (k + 1) steps) rest) (matches (drop (k + 1) steps) (capture ∷ rest)) b) own_after
     ∙ sym (matches-cons step (drop (k + 1) steps) capture rest)
-    ∙ ap (λ ss. matches ss (capture ∷ rest)) (sym (drop-here steps k step at)))
+    ∙ ap (λ ss. matches ss (capture ∷ rest)) (sym (drop_at steps k step at)))
 
 -- before the first turn
 pub OpenFrom-nil_start : (steps : List Step) (end : ℕ) → end ≡ length steps → end ≤ 32 → OpenFrom steps [] end (set (replicate 33 false) end true)
