@@ -2,6 +2,7 @@ use Rattle.std.proofs.Common.{◌≡◌, ℕ, ◌+◌, ◌<◌, ◌≤◌, not, 
 use Rattle.std.proofs.lemmas.List.{append-nil, length-append}
 use Rattle.std.proofs.lemmas.Option.{none-some, same_Some, slice_get_within, slice_get-get_or}
 use Rattle.std.proofs.lemmas.Bool.{cases_lt}
+use Rattle.ds_base.proofs.Places.{all_at, at_left, at_seam}
 use Rattle.ds_base.specs.declared.summary.Summary.{Summary}
 use Rattle.ds_base.specs.declared.verdict.Verdict.{Verdict}
 use Rattle.ds_base.specs.declared.verdict.Verdict.TheVariants.{Fine, Rewrite}
@@ -9,7 +10,7 @@ use Rattle.rewrite_judge.specs.declared.rule.Rule.{Rule}
 use Rattle.rewrite_judge.specs.Rule.{Keeps, keeps}
 use Rattle.rewrite_judge.specs.Pairs.{pairs}
 use Rattle.rewrite_judge.specs.Rewrite.{KeepsAll, IsFirstBreak, IsRewriteVerdict, first_broken, rewrite_at, rewrite_from, rewrite_verdict}
-use Rattle.rewrite_judge.proofs.Places.{All-at, slice_get-left, slice_get-seam, position-found, position-none, PlacedAt}
+use Rattle.rewrite_judge.proofs.Places.{position-found, position-none, PlacedAt}
 use Rattle.rewrite_judge.proofs.Kept.{Keeps-from_test, breaks-from_test}
 
 -- the verdict on a list of pairs
@@ -30,10 +31,10 @@ EachKeeps-push rules front pair each keeps_all k other at =
     let within = slice_get_within (front ++ pair ∷ []) k other at in
     let c : (k < length front) ⊎ (length front ≤ k) = cases_lt k (length front) in
     elim c [
-      | inl lt ↦ each k other (sym (slice_get-left front (pair ∷ []) k lt) ∙ at)
+      | inl lt ↦ each k other (sym (at_left front (pair ∷ []) k lt) ∙ at)
       | inr le ↦
           let last : length front ≡ k = omega (arith, length-append front (pair ∷ [])) in
-          let same : pair ≡ other = same_Some pair other (sym (slice_get-seam front [] pair) ∙ ap (slice_get (front ++ pair ∷ [])) last ∙ at) in
+          let same : pair ≡ other = same_Some pair other (sym (at_seam front [] pair) ∙ ap (slice_get (front ++ pair ∷ [])) last ∙ at) in
           let P : Summary × Summary → Type 0 = KeepsAll rules in
           subst P same keeps_all
     ]
@@ -46,8 +47,8 @@ IsFirstBreak-here rules front later pair r each some =
     let placed : PlacedAt (λ (rule : Rule). not (keeps rule pair)) rules r = subst P same found.2 in
     record {
       pair = pair;
-      pair_is = slice_get-seam front later pair;
-      earlier_pairs = λ k other lt at. each k other (sym (slice_get-left front (pair ∷ later) k lt) ∙ at);
+      pair_is = at_seam front later pair;
+      earlier_pairs = λ k other lt at. each k other (sym (at_left front (pair ∷ later) k lt) ∙ at);
       rule = placed.item;
       rule_is = placed.at_place;
       broken = breaks-from_test placed.item pair placed.passes;
@@ -86,7 +87,7 @@ rewrite_verdict-is from to rules members =
 
 -- exactly one verdict meets the definition
 not_all : (rules : List Rule) (all : List (Summary × Summary)) (p r : ℕ) → (b : IsFirstBreak rules all p r) → KeepsAll rules b.pair → ⊥
-not_all rules all p r b keeps_all = b.broken (All-at (λ (rule : Rule). Keeps rule b.pair) rules r b.rule b.rule_is keeps_all)
+not_all rules all p r b keeps_all = b.broken (all_at (λ (rule : Rule). Keeps rule b.pair) rules r b.rule keeps_all b.rule_is)
 
 not_earlier : (rules : List Rule) (all : List (Summary × Summary)) (p r q s : ℕ) → IsFirstBreak rules all p r → IsFirstBreak rules all q s → p < q → ⊥
 not_earlier rules all p r q s a b lt = not_all rules all p r a (b.earlier_pairs p a.pair lt a.pair_is)
@@ -114,9 +115,9 @@ same_break rules all p r q s a b =
 same_verdict : (from to : ℕ) (rules : List Rule) (members : List Summary) (v w : Verdict) → IsRewriteVerdict from to rules members v → IsRewriteVerdict from to rules members w → v ≡ w
 same_verdict from to rules members Fine Fine a b = refl
 same_verdict from to rules members Fine (Rewrite q s) a b =
-    absurd (not_all rules (pairs from to members) q s b (All-at (KeepsAll rules) (pairs from to members) q b.pair b.pair_is a))
+    absurd (not_all rules (pairs from to members) q s b (all_at (KeepsAll rules) (pairs from to members) q b.pair a b.pair_is))
 same_verdict from to rules members (Rewrite p r) Fine a b =
-    absurd (not_all rules (pairs from to members) p r a (All-at (KeepsAll rules) (pairs from to members) p a.pair a.pair_is b))
+    absurd (not_all rules (pairs from to members) p r a (all_at (KeepsAll rules) (pairs from to members) p a.pair b a.pair_is))
 same_verdict from to rules members (Rewrite p r) (Rewrite q s) a b = same_break rules (pairs from to members) p r q s a b
 same_verdict from to rules members Fine _ a b = elim b [ ]
 same_verdict from to rules members (Rewrite p r) _ a b = elim b [ ]

@@ -1,4 +1,4 @@
-use Rattle.std.proofs.Common.{◌≡◌, ◌≢◌, ℕ, ◌+◌, ◌<◌, Bool, true, false, not, List, Option, Some, None, refl, sym, ◌∙◌, arith, ◌==◌, IsSomeAnd, slice_index, length, All, slice_get, get_or}
+use Rattle.std.proofs.Common.{◌≡◌, ◌≢◌, ℕ, ◌+◌, Bool, true, false, not, Option, Some, None, refl, sym, ◌∙◌, arith, ◌==◌, IsSomeAnd, slice_index}
 use Rattle.std.specs.List.{find}
 use Rattle.std.specs.Option.{option_map_or}
 use Rattle.std.proofs.lemmas.Bool.{false≢true}
@@ -8,7 +8,6 @@ use Rattle.rewrite_judge.specs.declared.rule.Rule.{Rule}
 use Rattle.rewrite_judge.specs.declared.rule.How.{How}
 use Rattle.rewrite_judge.specs.declared.rule.How.TheVariants.{Same, Less, Table}
 use Rattle.rewrite_judge.specs.Rule.{Agree, Keeps, agree, keeps}
-use Rattle.rewrite_judge.proofs.Places.{All-at}
 
 -- the tests and the words
 same_test : (a b : ℕ) → (a == b) ≡ true → a ≡ b
@@ -49,12 +48,6 @@ Keeps-from_test rule pair h = Agree-from_test rule.how (slice_index pair.0.vals 
 pub breaks-from_test : (rule : Rule) (pair : Summary × Summary) → not (keeps rule pair) ≡ true → ¬ Keeps rule pair
 breaks-from_test rule pair h kept =
     false≢true (sym (not-true (keeps rule pair) h) ∙ test-from_Agree rule.how (slice_index pair.0.vals rule.var) (slice_index pair.1.vals rule.var) kept)
-
--- what each rule and member have, each rule and this member have
-pub values-at : (rules : List Rule) (members : List Summary) (k : ℕ) (member : Summary) → slice_get members k ≡ Some member
-    → All (λ (rule : Rule). All (λ (m : Summary). rule.var < length m.vals) members) rules
-    → All (λ (rule : Rule). rule.var < length member.vals) rules
-values-at rules members k member at all j d lt = All-at (λ (m : Summary). (get_or rules j d).var < length m.vals) members k member at (all j d lt)
 
 pub test_apart : (a b : ℕ) → (a ≡ b → ⊥) → (a == b) ≡ false
 test_apart a b h = let ne : a ≢ b = h in grind (arith, nat_tests)

@@ -1,18 +1,18 @@
 use Rattle.std.proofs.Common.{◌≡◌, ℕ, ◌+◌, ◌-◌, ◌<◌, ◌≤◌, true, false, List, [], ◌∷◌, Some, None, length, drop, refl, sym, ap, ◌∙◌, arith, cond, slice_get}
 use Rattle.std.proofs.lemmas.List.{length-drop}
+use Rattle.ds_base.proofs.Places.{drop_at}
 use Rattle.ds_base.specs.declared.summary.Summary.{Summary}
 use Rattle.ds_base.specs.declared.verdict.Verdict.TheVariants.{Fine, Rewrite}
 use Rattle.rewrite_judge.specs.declared.rule.Rule.{Rule}
 use Rattle.rewrite_judge.specs.Pairs.{crosses, pairs}
 use Rattle.rewrite_judge.specs.Rewrite.{first_broken, rewrite_at, rewrite_from, rewrite_verdict}
-use Rattle.rewrite_judge.proofs.Places.{drop-here}
 
 -- the pairs from a member on: it and the next, if they cross, and then those from the next on
 pairs-here : (from to : ℕ) (members : List Summary) (k : ℕ) (first second : Summary) → slice_get members k ≡ Some first → slice_get members (k + 1) ≡ Some second
     → pairs from to (drop k members) ≡ cond (crosses from to (first, second)) ((first, second) ∷ pairs from to (drop (k + 1) members)) (pairs from to (drop (k + 1) members))
 pairs-here from to members k first second at next =
-    let behind = drop-here members (k + 1) second next in
-    ap (pairs from to) (drop-here members k first at ∙ ap (λ ms. first ∷ ms) behind)
+    let behind = drop_at members (k + 1) second next in
+    ap (pairs from to) (drop_at members k first at ∙ ap (λ ms. first ∷ ms) behind)
     ∙ ap (λ ms. cond (crosses from to (first, second)) ((first, second) ∷ pairs from to ms) (pairs from to ms)) (sym behind)
 
 pairs-few : (from to : ℕ) (members : List Summary) → length members ≤ 1 → pairs from to members ≡ []
@@ -24,9 +24,6 @@ pairs-few from to (first ∷ (second ∷ members)) few = absurd (omega arith)
 pub record Passed (from to : ℕ) (rules : List Rule) (members : List Summary) (next pair : ℕ) : Type 0 where
   pub fewer : pair < next
   pub rest : rewrite_from rules pair (pairs from to (drop (next - 1) members)) ≡ rewrite_verdict from to rules members
-
-pub Passed-start : (from to : ℕ) (rules : List Rule) (members : List Summary) → Passed from to rules members 1 0
-Passed-start from to rules members = record { fewer = omega arith; rest = refl }
 
 -- the rest from the next member on
 rest-same : (from to : ℕ) (rules : List Rule) (members : List Summary) (next k pair : ℕ) (first second : Summary) → next ≡ k + 1 → slice_get members k ≡ Some first → slice_get members (k + 1) ≡ Some second

@@ -1,52 +1,24 @@
-use Rattle.std.proofs.Common.{◌≡◌, ℕ, zero, suc, ◌+◌, ◌<◌, ◌≤◌, Bool, true, false, List, [], ◌∷◌, ◌++◌, Option, Some, None, length, drop, All, refl, sym, ap, ◌∙◌, subst, arith, slice_get, cond}
+use Rattle.std.proofs.Common.{◌≡◌, ℕ, zero, suc, ◌+◌, ◌<◌, Bool, true, false, List, [], ◌∷◌, Option, Some, None, drop, refl, sym, ap, ◌∙◌, arith, slice_get, cond}
 use Rattle.std.specs.List.{find, position_from}
-use Rattle.std.proofs.lemmas.Option.{none-some, same_Some, slice_get_within, get_or_from_slice_get}
-use Rattle.std.proofs.Math.Seq.{drop-cons}
-use Rattle.std.proofs.Math.Numerals.{add-one}
-
--- what holds of each holds of the item at a place
-pub All-at : {X : Type 0} (P : X → Type 0) (xs : List X) (i : ℕ) (x : X) → slice_get xs i ≡ Some x → All P xs → P x
-All-at P xs i x e all = subst P (get_or_from_slice_get xs i x x e) (all i x (slice_get_within xs i x e))
-
--- the item at a place stands before those after it
-pub drop-here : {X : Type 0} (xs : List X) (i : ℕ) (x : X) → slice_get xs i ≡ Some x → drop i xs ≡ x ∷ drop (i + 1) xs
-drop-here xs i x e =
-    let here = get_or_from_slice_get xs i x x e in
-    let within = slice_get_within xs i x e in
-    drop-cons xs i x within ∙ ap (λ y. y ∷ drop (suc i) xs) here ∙ ap (λ n. x ∷ drop n xs) (sym (add-one i))
-
-pub drop-past : {X : Type 0} (xs : List X) (j : ℕ) → length xs ≤ j → drop j xs ≡ []
-drop-past [] zero h = refl
-drop-past [] (suc j) h = refl
-drop-past (x ∷ xs) zero h = absurd (omega arith)
-drop-past (x ∷ xs) (suc j) h = drop-past xs j (omega arith)
-
--- the place of an item in the first of two joined lists
-pub slice_get-left : {X : Type 0} (xs ys : List X) (i : ℕ) → i < length xs → slice_get (xs ++ ys) i ≡ slice_get xs i
-slice_get-left [] ys i lt = absurd (omega arith)
-slice_get-left (x ∷ xs) ys zero lt = refl
-slice_get-left (x ∷ xs) ys (suc i) lt = slice_get-left xs ys i (omega arith)
-
-pub slice_get-seam : {X : Type 0} (xs ys : List X) (y : X) → slice_get (xs ++ y ∷ ys) (length xs) ≡ Some y
-slice_get-seam [] ys y = refl
-slice_get-seam (x ∷ xs) ys y = slice_get-seam xs ys y
+use Rattle.std.proofs.lemmas.Option.{none-some, same_Some}
+use Rattle.ds_base.proofs.Places.{drop_at}
 
 -- a search from a place on: an item that fails the test is passed over, one that passes it is found
 pub find-pass : {X : Type 0} (p : X → Bool) (xs : List X) (i : ℕ) (x : X) (found : Option X) → slice_get xs i ≡ Some x → p x ≡ false → find p (drop i xs) ≡ found → find p (drop (i + 1) xs) ≡ found
 find-pass p xs i x found at fails h =
-    ap (λ b. cond b (Some x) (find p (drop (i + 1) xs))) (sym fails) ∙ ap (find p) (sym (drop-here xs i x at)) ∙ h
+    ap (λ b. cond b (Some x) (find p (drop (i + 1) xs))) (sym fails) ∙ ap (find p) (sym (drop_at xs i x at)) ∙ h
 
 pub find-take : {X : Type 0} (p : X → Bool) (xs : List X) (i : ℕ) (x : X) (found : Option X) → slice_get xs i ≡ Some x → p x ≡ true → find p (drop i xs) ≡ found → Some x ≡ found
 find-take p xs i x found at passes h =
-    ap (λ b. cond b (Some x) (find p (drop (i + 1) xs))) (sym passes) ∙ ap (find p) (sym (drop-here xs i x at)) ∙ h
+    ap (λ b. cond b (Some x) (find p (drop (i + 1) xs))) (sym passes) ∙ ap (find p) (sym (drop_at xs i x at)) ∙ h
 
 pub position-pass : {X : Type 0} (p : X → Bool) (xs : List X) (i : ℕ) (x : X) (found : Option ℕ) → slice_get xs i ≡ Some x → p x ≡ false → position_from p i (drop i xs) ≡ found → position_from p (i + 1) (drop (i + 1) xs) ≡ found
 position-pass p xs i x found at fails h =
-    ap (λ b. cond b (Some i) (position_from p (i + 1) (drop (i + 1) xs))) (sym fails) ∙ ap (position_from p i) (sym (drop-here xs i x at)) ∙ h
+    ap (λ b. cond b (Some i) (position_from p (i + 1) (drop (i + 1) xs))) (sym fails) ∙ ap (position_from p i) (sym (drop_at xs i x at)) ∙ h
 
 pub position-take : {X : Type 0} (p : X → Bool) (xs : List X) (i : ℕ) (x : X) (found : Option ℕ) → slice_get xs i ≡ Some x → p x ≡ true → position_from p i (drop i xs) ≡ found → Some i ≡ found
 position-take p xs i x found at passes h =
-    ap (λ b. cond b (Some i) (position_from p (i + 1) (drop (i + 1) xs))) (sym passes) ∙ ap (position_from p i) (sym (drop-here xs i x at)) ∙ h
+    ap (λ b. cond b (Some i) (position_from p (i + 1) (drop (i + 1) xs))) (sym passes) ∙ ap (position_from p i) (sym (drop_at xs i x at)) ∙ h
 
 -- the first item that passes the test, and its place
 pub record PlacedAt {X : Type 0} (p : X → Bool) (xs : List X) (place : ℕ) : Type 0 where
