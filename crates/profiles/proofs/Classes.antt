@@ -1,28 +1,65 @@
 -- The classes of a row, and the digits of a time.
-use Rattle.std.proofs.Common.{ℕ, List, [], ◌∷◌, ◌++◌, ◌≡◌, ◌<◌, ◌≤◌, ◌+◌, ◌-◌, ◌*◌, ◌^◌, ◌⊎◌, inl, inr, suc, zero, refl, ap, subst, ◌∙◌, arith, length, take, drop, get_or, set, replicate}
-use Rattle.std.specs.Prelude.{sum}
+use Rattle.std.proofs.Common.{ℕ, List, [], ◌∷◌, ◌++◌, ◌≡◌, ◌<◌, ◌≤◌, ◌+◌, ◌-◌, ◌*◌, ◌^◌, inl, inr, suc, zero, refl, sym, true, false, ap, subst, ◌∙◌, arith, length, take, drop, get_or, set, replicate}
+use Rattle.std.specs.Prelude.{sum, nat_lt}
 use Rattle.std.specs.Int.{leading_zeros, w64}
-use Rattle.std.proofs.lemmas.Bool.{cases_lt}
+use Rattle.std.proofs.lemmas.Bool.{cases_lt, lt-ltb, le-ltb}
 use Rattle.std.proofs.lemmas.List.Sums.{sum_by-cons, sum_by-set}
 use Rattle.std.proofs.lemmas.List.Folds.{sum_by-replicate}
 use Rattle.std.proofs.lemmas.Nat.{leading_length}
 use Rattle.std.proofs.lemmas.List.{length-replicate, get_or-replicate}
-use Rattle.profiles.specs.Rows.{added, binary_digits}
+use Rattle.std.proofs.Math.Nat.{pow-suc}
+use Rattle.std.proofs.Math.Pow.{pow_mono}
+use Rattle.profiles.specs.Rows.{added, IsClass, class_from, class_of}
 
--- a time of an hour has fewer than 64 digits
-few_digits : (time m front : ℕ) → time ≤ 3600000000000 → front + m ≡ 64 → 2 ^ m ≤ 2 * time + 1 → 64 - front < 64
-few_digits time m front h e le =
-    let c : (m < 64) ⊎ (64 ≤ m) = cases_lt m 64 in
-    elim c [
-      | inl lt ↦ omega arith
+-- the search for the class of a time finds the least number
+least-found : (most k time m : ℕ) → k ≤ m → m ≤ k + most → time < 2 ^ m → ((j : ℕ) → j < m → 2 ^ j ≤ time) → class_from most k time ≡ m
+unfolding class_from
+least-found zero k time m low high below above = omega (arith, low, high)
+least-found (suc most) k time m low high below above =
+    elim (cases_lt time (2 ^ k)) [
+      | inl lt ↦
+          let here : nat_lt time (2 ^ k) ≡ true = lt-ltb time (2 ^ k) lt in
+          elim (cases_lt k m) [ inl less ↦ absurd (omega (arith, above k less, lt)) | inr ge ↦ rw here (omega (arith, low, ge)) ]
       | inr ge ↦
-          let all : m ≡ 64 = omega arith in
-          let P : ℕ → Type 0 = λ n. 2 ^ n ≤ 2 * time + 1 in
-          absurd (omega (arith, h, subst P all le))
+          let not_here : nat_lt time (2 ^ k) ≡ false = le-ltb time (2 ^ k) ge in
+          let next : suc k ≤ m = elim (cases_lt k m) [
+            | inl less ↦ omega (arith, less)
+            | inr back ↦
+                let same : m ≡ k = omega (arith, low, back) in absurd (omega (arith, ge, subst (λ n. time < 2 ^ n) same below))
+          ] in
+          rw not_here (least-found most (suc k) time m next (omega (arith, high)) below above)
     ]
 
-pub digits-few : (time : ℕ) → time ≤ 3600000000000 → binary_digits time < 64
-digits-few time h = let l = leading_length 64 time (omega arith) in few_digits time l.0 (leading_zeros w64 time) h l.1 l.3
+-- what is less than the number of binary digits has its power of 2 at most the time
+power_below : (time m j : ℕ) → 2 ^ m ≤ 2 * time + 1 → j < m → 2 ^ j ≤ time
+power_below time m j le less =
+    let next : suc j ≤ m = omega (arith, less) in
+    let twice : 2 ^ suc j ≤ 2 ^ m = pow_mono next in
+    omega (arith, pow-suc 2 j, twice, le)
+
+-- the class of a time is how many binary digits it has
+pub class-digits : (time : ℕ) → time < 2 ^ 64 → 64 - leading_zeros w64 time ≡ class_of time
+unfolding class_of
+class-digits time within =
+    let l = leading_length 64 time within in
+    let found : class_from 64 0 time ≡ l.0 =
+    least-found 64 0 time l.0 (omega arith) (omega (arith, l.1)) l.2 (λ j less. power_below time l.0 j l.3 less) in
+    omega (arith, found, l.1)
+
+-- the class is the least number of its kind
+pub least_class : (time : ℕ) → time < 2 ^ 64 → IsClass time (class_of time)
+least_class time within =
+    let l = leading_length 64 time within in
+    let is : class_of time ≡ l.0 = omega (arith, sym (class-digits time within), l.1) in
+    let own : IsClass time l.0 = record {
+      below = l.2;
+      least = λ j less. elim (cases_lt j l.0) [ inl short ↦ absurd (omega (arith, power_below time l.0 j l.3 short, less)) | inr ge ↦ ge ];
+    } in
+    subst (IsClass time) (sym is) own
+
+-- a time of an hour has a class below 64
+pub class-few : (time : ℕ) → time ≤ 3600000000000 → class_of time < 64
+class-few time h = let least : class_of time ≤ 42 = (least_class time (omega arith)).least 42 (omega arith) in omega arith
 
 -- ---- the sums of classes
 

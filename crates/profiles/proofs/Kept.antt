@@ -1,16 +1,16 @@
 -- What a profile keeps of its rows is kept by putting one more.
 use Rattle.std.proofs.Common.{ℕ, Bool, cond, List, [], ◌∷◌, ◌≡◌, ◌<◌, ◌≤◌, ◌+◌, ◌*◌, ◌^◌, refl, sym, ap, subst, ◌∙◌, arith, length, max, replicate, get_or, set, length-set}
-use Rattle.std.specs.Prelude.{Some, insert}
+use Rattle.std.specs.Prelude.{Some}
 use Rattle.std.specs.List.{AllByRecursion}
 use Rattle.std.specs.Option.{option_map_or}
 use Rattle.std.proofs.Math.Nat.{add-mul, mul-le-mul_left, le-max_left, le-max_right}
 use Rattle.ds_base.specs.declared.profile_row.ProfileRow.{ProfileRow}
 use Rattle.profiles.specs.Delays.{Delay}
-use Rattle.profiles.specs.Rows.{IsSound, row_of, count_of, joined, binary_digits}
+use Rattle.profiles.specs.Rows.{IsSound, row_of, count_of, joined, class_of}
 use Rattle.profiles.specs.Put.{pair_number, AreKept, HasRoom, PutsAt, InsertsAt, put, single}
 use Rattle.profiles.proofs.Put.{RiseFrom, put_by, is_of-true, is_of-other, same_pair}
 use Rattle.profiles.proofs.Places.{RiseFrom-kept, AreRising-from, room-for-new}
-use Rattle.profiles.proofs.Classes.{sum-added, sum-one, digits-few, length-added}
+use Rattle.profiles.proofs.Classes.{sum-added, sum-one, class-few, length-added}
 
 RiseFrom-put : (n : ℕ) (row : ProfileRow) (rows : List ProfileRow) → RiseFrom n rows → n ≤ pair_number row → RiseFrom n (put row rows)
 RiseFrom-put n row [] h le = (le, tt)
@@ -76,13 +76,13 @@ IsSound-single d f t h = record {
   to_below = t;
   some = omega arith;
   few = omega arith;
-  classes_sum = sym (sum-one 64 (binary_digits d.time) (digits-few d.time h));
+  classes_sum = sym (sum-one 64 (class_of d.time) (class-few d.time h));
   greatest_within = h;
   sum_within = omega arith;
 }
 
 pub width-single : (d : Delay) → length (single d).classes ≡ 64
-width-single d = length-set (replicate 64 0) (binary_digits d.time) 1
+width-single d = length-set (replicate 64 0) (class_of d.time) 1
 
 -- ---- what the code does at the place that it found
 
@@ -92,10 +92,6 @@ pub insert-room : (len capacity number : ℕ) (row : ProfileRow) (xs rows : List
 insert-room len capacity number row xs rows i k t w few same long found is room =
     let P : List ProfileRow → Type 0 = λ l. AreKept (put row l) in
     room-for-new len capacity row xs i (subst P (sym same) (AreKept-put row rows k t w few)) found.0 (found.1 row is) (sym long) room
-
-pub put-inserted : (number : ℕ) (row : ProfileRow) (xs rows : List ProfileRow) (i : ℕ) → xs ≡ rows → InsertsAt number xs i → pair_number row ≡ number
-    → insert rows i row ≡ put row rows
-put-inserted number row xs rows i same found is = let P : List ProfileRow → Type 0 = λ l. insert l i row ≡ put row l in subst P same (sym (found.1 row is))
 
 pub put-found : (number : ℕ) (row : ProfileRow) (xs rows : List ProfileRow) (i : ℕ) (x y : ProfileRow) → xs ≡ rows → PutsAt number xs i → pair_number row ≡ number
     → x ≡ get_or rows i x → y ≡ joined x row → set rows i y ≡ put row rows

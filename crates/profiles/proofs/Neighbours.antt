@@ -2,8 +2,7 @@
 use Rattle.std.proofs.Common.{ℕ, List, [], ◌∷◌, ◌≡◌, ◌<◌, ◌≤◌, ◌+◌, ◌^◌, inl, inr, suc, zero, refl, sym, ap, subst, ◌∙◌, arith, length, drop, length-drop}
 use Rattle.std.specs.Prelude.{Some, All, slice_get}
 use Rattle.std.specs.List.{AllByRecursion}
-use Rattle.std.proofs.lemmas.List.{drop_more}
-use Rattle.std.proofs.lemmas.Option.{slice_get_within, get_or_from_slice_get}
+use Rattle.ds_base.proofs.Places.{drop_at}
 use Rattle.ds_base.specs.Order.{Precedes, InStampOrder}
 use Rattle.ds_base.specs.declared.stamp.Stamp.{Stamp}
 use Rattle.ds_base.specs.declared.summary.Summary.{Summary}
@@ -13,14 +12,11 @@ use Rattle.profiles.specs.Rows.{count_of}
 use Rattle.profiles.specs.Put.{AreKept, IsLawful, CanCount, put, single, count_all}
 use Rattle.profiles.proofs.Counting.{CanCount-next, few-first}
 
-drop-at : (l : List Summary) (i : ℕ) (s : Summary) → slice_get l i ≡ Some s → drop i l ≡ s ∷ drop (i + 1) l
-drop-at l i s h = drop_more l i s (slice_get_within l i s h) ∙ ap (λ (x : Summary). x ∷ drop (i + 1) l) (get_or_from_slice_get l i s s h)
-
 pub delays-at : (l : List Summary) (i : ℕ) (a b : Summary) → slice_get l i ≡ Some a → slice_get l (i + 1) ≡ Some b
     → delays (drop i l) ≡ delay_between a b ∷ delays (drop (i + 1) l)
 delays-at l i a b h k =
-    let one = drop-at l i a h in
-    let two = drop-at l (i + 1) b k in
+    let one = drop_at l i a h in
+    let two = drop_at l (i + 1) b k in
     ap delays one ∙ ap (λ (m : List Summary). delays (a ∷ m)) two ∙ ap (λ (m : List Summary). delay_between a b ∷ delays m) (sym two)
 
 delays-short : (l : List Summary) → length l ≤ 1 → delays l ≡ []
@@ -45,7 +41,7 @@ order-drop (x ∷ l) (suc i) o = order-drop l i o.1
 pub times-rise : (l : List Summary) (i : ℕ) (a b : Summary) → InStampOrder l → slice_get l i ≡ Some a → slice_get l (i + 1) ≡ Some b → a.at.time ≤ b.at.time
 times-rise l i a b o h k =
     let P : List Summary → Type 0 = InStampOrder in
-    let two = subst P (drop-at l i a h ∙ ap (λ (m : List Summary). a ∷ m) (drop-at l (i + 1) b k)) (order-drop l i o) in
+    let two = subst P (drop_at l i a h ∙ ap (λ (m : List Summary). a ∷ m) (drop_at l (i + 1) b k)) (order-drop l i o) in
     time-first a.at b.at two.0.0
 
 -- the delays of a group can be counted

@@ -9,7 +9,7 @@ use Rattle.std.proofs.lemmas.List.Sorted.{sum_by-IsPermutation, Contains-permuta
 use Rattle.ds_base.specs.Copies.{Copies}
 use Rattle.ds_base.specs.declared.profile_row.ProfileRow.{ProfileRow}
 use Rattle.profiles.specs.Delays.{delays, delays_of, times_between}
-use Rattle.profiles.specs.Rows.{IsRowOf, TellsOf, row_of, binary_digits}
+use Rattle.profiles.specs.Rows.{IsRowOf, TellsOf, row_of, class_of}
 use Rattle.profiles.specs.Laws.{InAnyOrder}
 use Rattle.profiles.proofs.Tells.{times-append}
 
@@ -84,7 +84,7 @@ IsRowOf-same xs ys row s r = record {
   greatest_is = s.there row.greatest r.greatest_is;
   greatest_above = all-same (λ (t : ℕ). t ≤ row.greatest) xs ys s.back r.greatest_above;
   width = r.width;
-  classes_are = λ k lt. r.classes_are k lt ∙ sym (s.sums (λ t. cond (eqb (binary_digits t) k) 1 0));
+  classes_are = λ k lt. r.classes_are k lt ∙ sym (s.sums (λ t. cond (eqb (class_of t) k) 1 0));
 }
 
 no_times : (xs : List ℕ) → length xs ≡ 0 → xs ≡ []

@@ -8,7 +8,7 @@ use Rattle.std.proofs.lemmas.List.Sums.{sum_by-append}
 use Rattle.std.proofs.lemmas.List.Elements.{All-append, Contains-append_left, Contains-append_right, filter-append}
 use Rattle.ds_base.specs.declared.profile_row.ProfileRow.{ProfileRow}
 use Rattle.profiles.specs.Delays.{Delay, times_between}
-use Rattle.profiles.specs.Rows.{IsRowOf, TellsOf, is_of, row_of, joined, joined_if_any, binary_digits}
+use Rattle.profiles.specs.Rows.{IsRowOf, TellsOf, is_of, row_of, joined, joined_if_any, class_of}
 use Rattle.profiles.specs.Put.{single}
 use Rattle.profiles.proofs.Classes.{length-added, get_or-added}
 
@@ -47,7 +47,7 @@ IsRowOf-joined xs ys a b r s = record {
       (all-weaker (λ (t : ℕ). t ≤ b.greatest) (λ (t : ℕ). t ≤ max a.greatest b.greatest) ys (λ n h. omega arith) s.greatest_above);
   width = length-added a.classes b.classes ∙ r.width;
   classes_are = λ k lt.
-      omega (arith, get_or-added a.classes b.classes k (r.width ∙ sym s.width), r.classes_are k lt, s.classes_are k lt, sum_by-append (λ (t : ℕ). cond (eqb (binary_digits t) k) 1 0) xs ys);
+      omega (arith, get_or-added a.classes b.classes k (r.width ∙ sym s.width), r.classes_are k lt, s.classes_are k lt, sum_by-append (λ (t : ℕ). cond (eqb (class_of t) k) 1 0) xs ys);
 }
 
 pub TellsOf-joined : (xs ys : List ℕ) (a b : Option ProfileRow) → TellsOf xs a → TellsOf ys b → TellsOf (xs ++ ys) (joined_if_any a b)
@@ -71,19 +71,19 @@ one_if b = cond b 1 0
 abbrev one_at : ℕ → ℕ → ℕ
 one_at digits k = get_or (set (replicate 64 0) digits 1) k 0
 
-one_class : (time k : ℕ) → k < 64 → one_at (binary_digits time) k ≡ one_if (eqb (binary_digits time) k)
+one_class : (time k : ℕ) → k < 64 → one_at (class_of time) k ≡ one_if (eqb (class_of time) k)
 one_class time k lt =
     ⊎_elim
-    (λ (t : eqb (binary_digits time) k ≡ true).
-    let e : binary_digits time ≡ k = grind (arith, nat_tests) in
-    let P : Bool → Type 0 = λ b. one_at (binary_digits time) k ≡ one_if b in
+    (λ (t : eqb (class_of time) k ≡ true).
+    let e : class_of time ≡ k = grind (arith, nat_tests) in
+    let P : Bool → Type 0 = λ b. one_at (class_of time) k ≡ one_if b in
     let Q : ℕ → Type 0 = λ n. one_at n k ≡ 1 in
     subst P (sym t) (subst Q (sym e) (get_or-set_same {A = ℕ} (replicate 64 0) k 1 0 lt)))
-    (λ (f : eqb (binary_digits time) k ≡ false).
-    let e : k ≢ binary_digits time = grind (arith, nat_tests) in
-    let P : Bool → Type 0 = λ b. one_at (binary_digits time) k ≡ one_if b in
-    subst P (sym f) (get_or-set_other {A = ℕ} (replicate 64 0) (binary_digits time) k 1 0 e ∙ get_or-replicate {A = ℕ} 64 k 0 0 lt))
-    (cases_Bool (eqb (binary_digits time) k))
+    (λ (f : eqb (class_of time) k ≡ false).
+    let e : k ≢ class_of time = grind (arith, nat_tests) in
+    let P : Bool → Type 0 = λ b. one_at (class_of time) k ≡ one_if b in
+    subst P (sym f) (get_or-set_other {A = ℕ} (replicate 64 0) (class_of time) k 1 0 e ∙ get_or-replicate {A = ℕ} 64 k 0 0 lt))
+    (cases_Bool (eqb (class_of time) k))
 
 IsRowOf-single : (d : Delay) → IsRowOf (d.time ∷ []) (single d)
 IsRowOf-single d = record {
@@ -93,7 +93,7 @@ IsRowOf-single d = record {
   least_below = all-one (λ (t : ℕ). d.time ≤ t) d.time (omega arith);
   greatest_is = (0, omega arith, refl);
   greatest_above = all-one (λ (t : ℕ). t ≤ d.time) d.time (omega arith);
-  width = length-set (replicate 64 0) (binary_digits d.time) 1;
+  width = length-set (replicate 64 0) (class_of d.time) 1;
   classes_are = λ k lt. one_class d.time k lt ∙ omega arith;
 }
 

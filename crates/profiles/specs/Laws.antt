@@ -1,5 +1,5 @@
 -- What is true of every profile.
-use Rattle.std.specs.Prelude.{ℕ, List, ◌∷◌, ◌++◌, ◌≡◌, ◌≤◌, ◌+◌, All, length, sum_by}
+use Rattle.std.specs.Prelude.{ℕ, List, ◌∷◌, ◌++◌, ◌≡◌, ◌<◌, ◌≤◌, ◌+◌, ◌^◌, All, length, sum_by}
 use Rattle.std.specs.List.{AllByRecursion}
 use Rattle.std.specs.List.Sorted.{IsPermutation}
 use Rattle.ds_base.specs.Copies.{Copies}
@@ -7,7 +7,7 @@ use Rattle.ds_base.specs.Order.{InStampOrder}
 use Rattle.ds_base.specs.declared.profile_row.ProfileRow.{ProfileRow}
 use Rattle.ds_base.specs.declared.summary.Summary.{Summary}
 use Rattle.profiles.specs.Delays.{delays, times_between}
-use Rattle.profiles.specs.Rows.{count_of}
+use Rattle.profiles.specs.Rows.{IsClass, class_of, count_of}
 use Rattle.profiles.specs.Profile.{IsProfile}
 use Rattle.profiles.specs.Put.{CanJoin, put_all}
 
@@ -36,3 +36,7 @@ FewDelays = (groups : List Copies) (rows : List ProfileRow) (from to : ℕ) → 
 abbrev pub WithinWindow : Type 0
 WithinWindow = (window : ℕ) (first : Summary) (members : List Summary) → InStampOrder (first ∷ members)
     → AllByRecursion (λ member. member.at.time ≤ first.at.time + window) (first ∷ members) → All (λ delay. delay.time ≤ window) (delays (first ∷ members))
+
+-- the class of a time is the least k with the time below 2^k
+abbrev pub LeastClass : Type 0
+LeastClass = (time : ℕ) → time < 2 ^ 64 → IsClass time (class_of time)

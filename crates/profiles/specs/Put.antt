@@ -1,9 +1,10 @@
 -- How a row is put into the rows of a profile.
 use Rattle.std.specs.Prelude.{ℕ, ◌≡◌, ◌≤◌, ◌<◌, ◌+◌, ◌*◌, ◌^◌, ◌⊎◌, List, [], ◌∷◌, length, replicate, insert, slice_set, slice_index_or, nat_lt, nat_eq, if◌then◌else◌}
 use Rattle.std.specs.List.{AllByRecursion}
+use Rattle.ds_base.specs.Times.{hour}
 use Rattle.ds_base.specs.declared.profile_row.ProfileRow.{ProfileRow}
 use Rattle.profiles.specs.Delays.{Delay, times_between}
-use Rattle.profiles.specs.Rows.{IsSound, AreRising, joined, binary_digits, count_of}
+use Rattle.profiles.specs.Rows.{IsSound, AreRising, joined, class_of, count_of}
 
 -- captures are below 64, so the order of these numbers is that of the pairs
 abbrev pub pair_number : ProfileRow → ℕ
@@ -24,7 +25,7 @@ single d = record {
   sum = d.time;
   least = d.time;
   greatest = d.time;
-  classes = slice_set (replicate 64 0) (binary_digits d.time) 1;
+  classes = slice_set (replicate 64 0) (class_of d.time) 1;
 }
 
 -- the rows with one more, which is joined with that of its pair
@@ -46,7 +47,7 @@ count_all (d ∷ ds) rows = count_all ds (put (single d) rows)
 
 -- what a delay that is counted meets: captures below 64, and at most an hour
 abbrev pub IsLawful : Delay → Type 0
-IsLawful d = (d.from < 64) × (d.to < 64) × (d.time ≤ 3600000000000)
+IsLawful d = (d.from < 64) × (d.to < 64) × (d.time ≤ hour)
 
 -- the delays can be counted: they are lawful, and each pair's count stays below 2^55
 pub record CanCount (ds : List Delay) (rows : List ProfileRow) : Type 0 where

@@ -1,13 +1,23 @@
 -- The rows of a profile: one for a pair of captures.
-use Rattle.std.specs.Prelude.{ℕ, ◌≡◌, ◌+◌, ◌-◌, ◌*◌, ◌^◌, ◌<◌, ◌≤◌, ◌⊎◌, ◌==◌, ◌&&◌, Bool, List, [], ◌∷◌, Option, Some, None, min, max, length, sum, count_by, All, Contains, slice_index}
+use Rattle.std.specs.Prelude.{ℕ, zero, suc, nat_lt, if◌then◌else◌, ◌≡◌, ◌+◌, ◌*◌, ◌^◌, ◌<◌, ◌≤◌, ◌⊎◌, ◌==◌, ◌&&◌, Bool, List, [], ◌∷◌, Option, Some, None, min, max, length, sum, count_by, All, Contains, slice_index}
 use Rattle.std.specs.List.{find}
 use Rattle.std.specs.Option.{option_map_or}
-use Rattle.std.specs.Int.{leading_zeros, w64}
+use Rattle.ds_base.specs.Times.{hour}
 use Rattle.ds_base.specs.declared.profile_row.ProfileRow.{ProfileRow}
 
--- how many binary digits a time has, 0 for 0
-abbrev pub binary_digits : ℕ → ℕ
-binary_digits time = 64 - leading_zeros w64 time
+-- k is the least number with the time below 2^k
+pub record IsClass (time k : ℕ) : Type 0 where
+  pub below : time < 2 ^ k
+  pub least : (j : ℕ) → time < 2 ^ j → k ≤ j
+
+-- the first of so many numbers from k on, or else the one after them, with the time below its power of 2
+unfoldable pub class_from : (most k time : ℕ) → ℕ
+class_from zero k time = k
+class_from (suc most) k time = if nat_lt time (2 ^ k) then k else class_from most (suc k) time
+
+-- the class of a time below 2^64: the least k with the time below 2^k
+unfoldable pub class_of : ℕ → ℕ
+class_of time = class_from 64 0 time
 
 -- the row tells of these times
 pub record IsRowOf (times : List ℕ) (row : ProfileRow) : Type 0 where
@@ -18,7 +28,7 @@ pub record IsRowOf (times : List ℕ) (row : ProfileRow) : Type 0 where
   pub greatest_is : Contains times row.greatest
   pub greatest_above : All (λ time. time ≤ row.greatest) times
   pub width : length row.classes ≡ 64
-  pub classes_are : (k : ℕ) → k < 64 → slice_index row.classes k ≡ count_by (λ time. binary_digits time == k) times
+  pub classes_are : (k : ℕ) → k < 64 → slice_index row.classes k ≡ count_by (λ time. class_of time == k) times
 
 -- no row where there is no time, else the row of these times
 abbrev pub TellsOf : List ℕ → Option ProfileRow → Type 0
@@ -32,7 +42,7 @@ pub record IsSound (row : ProfileRow) : Type 0 where
   pub some : 1 ≤ row.count
   pub few : row.count < 2 ^ 55
   pub classes_sum : row.count ≡ sum row.classes
-  pub greatest_within : row.greatest ≤ 3600000000000
+  pub greatest_within : row.greatest ≤ hour
   pub sum_within : row.sum ≤ row.count * row.greatest
 
 -- the pair of a is before that of b

@@ -1,6 +1,6 @@
 //! Laws about profiles that the report builds on. Each is a call that does nothing.
 
-ghost use Rattle.profiles.specs.Laws.{InAnyOrder, OneProfile, RowByRow, FewInGroup, FewDelays, WithinWindow};
+ghost use Rattle.profiles.specs.Laws.{InAnyOrder, OneProfile, RowByRow, FewInGroup, FewDelays, WithinWindow, LeastClass};
 
 /// A law: the profile of groups is that of the same groups in any other order.
 pub fn in_any_order()
@@ -26,4 +26,9 @@ pub fn few_delays()
 /// A law: no delay of a group is longer than the group lasts.
 pub fn within_window()
     ensures { WithinWindow }
+{}
+
+/// A law: the class of a time below 2^64 is the least k with the time below 2^k.
+pub fn least_class()
+    ensures { LeastClass }
 {}

@@ -10,5 +10,5 @@ mod rows;
 #[cfg(test)]
 mod tests;
 
-pub use laws::{few_delays, in_any_order, one_profile, row_by_row, within_window};
+pub use laws::{few_delays, in_any_order, least_class, one_profile, row_by_row, within_window};
 pub use profile::Profile;

@@ -1,6 +1,7 @@
 //! The profile that grows.
 
 ghost use Rattle.std.specs.Prelude.{ℕ, List, ◌≡◌, ◌<◌, ◌≤◌, ◌+◌, ◌^◌, ◌++◌, ◌∷◌, [], ◌↔◌, ◌==◌, length, slice_get, All, OnOk, OnErr, IfSome, IsNone};
+ghost use Rattle.ds_base.specs.Times.{hour};
 ghost use Rattle.ds_base.specs.Copies.{Copies, copies_of};
 ghost use Rattle.ds_base.specs.Order.{InStampOrder};
 ghost use Rattle.profiles.specs.Delays.{delays, times_between};
@@ -77,7 +78,7 @@ impl Profile {
         requires not_empty { 0 < length group.now.members.items }
         requires ordered { InStampOrder group.now.members.items }
         requires captures { All (λ member. member.at.capture < 64) group.now.members.items }
-        requires hour { All (λ delay. delay.time ≤ 3600000000000) (delays group.now.members.items) }
+        requires hour { All (λ delay. delay.time ≤ hour) (delays group.now.members.items) }
         requires few { (from to : ℕ) → count_of from to self.old + length (times_between from to (delays group.now.members.items)) < 2 ^ 55 }
         ensures profile { OnOk result ((groups : List Copies) → IsProfile groups self.old → IsProfile (groups ++ copies_of group.now ∷ []) self.new) }
         ensures counts { OnOk result ((from to : ℕ) → count_of from to self.new

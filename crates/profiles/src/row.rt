@@ -1,15 +1,16 @@
 //! One row: that of a single delay, and how two are joined.
 
 ghost use Rattle.std.specs.Prelude.{◌≡◌, ◌<◌, ◌≤◌, ◌+◌, ◌*◌, ◌^◌, length, sum};
-ghost use Rattle.profiles.specs.Rows.{joined, added, binary_digits, IsSound};
+ghost use Rattle.ds_base.specs.Times.{hour};
+ghost use Rattle.profiles.specs.Rows.{joined, added, class_of, IsSound};
 ghost use Rattle.profiles.specs.Put.{single};
 
 use ds_base::ProfileRow;
 
-// How many binary digits a time has, 0 for 0.
-fn digits_of(time: u64) -> usize
-    requires hour { time ≤ 3600000000000 }
-    ensures digits { result ≡ binary_digits time }
+// The class of a time: the least k with the time below 2^k, which is how many binary digits it has.
+fn class_number(time: u64) -> usize
+    requires hour { time ≤ hour }
+    ensures class { result ≡ class_of time }
     ensures few { result < 64 }
 {
     (64 - time.leading_zeros()) as usize
@@ -17,11 +18,11 @@ fn digits_of(time: u64) -> usize
 
 // The row of one delay.
 pub(crate) fn single_row(from: u32, to: u32, time: u64) -> ProfileRow
-    requires hour { time ≤ 3600000000000 }
+    requires hour { time ≤ hour }
     ensures { result ≡ single (record { from = from; to = to; time = time }) }
 {
     let mut classes = [0; 64];
-    classes[digits_of(time)] = 1;
+    classes[class_number(time)] = 1;
     ProfileRow {
         from,
         to,
@@ -35,7 +36,7 @@ pub(crate) fn single_row(from: u32, to: u32, time: u64) -> ProfileRow
 
 // Counts one more delay of the row's pair.
 pub(crate) fn count_delay(row: &mut ProfileRow, time: u64)
-    requires hour { time ≤ 3600000000000 }
+    requires hour { time ≤ hour }
     requires sound { IsSound row.old }
     requires width { length row.old.classes ≡ 64 }
     ensures { row.new ≡ joined row.old (single (record { from = row.old.from; to = row.old.to; time = time })) }
@@ -44,7 +45,7 @@ pub(crate) fn count_delay(row: &mut ProfileRow, time: u64)
     row.sum += u128::from(time);
     row.least = row.least.min(time);
     row.greatest = row.greatest.max(time);
-    row.classes[digits_of(time)] += 1;
+    row.classes[class_number(time)] += 1;
 }
 
 // Joins another row of the same pair to a row.

@@ -1,6 +1,7 @@
 //! The sorted list of rows: where a pair has its row, and how delays and rows are put there.
 
 ghost use Rattle.std.specs.Prelude.{◌≡◌, ◌<◌, ◌≤◌, ◌+◌, ◌*◌, ◌^◌, ◌⊎◌, ℕ, length, slice_index_or, insert, slice_set, MatchResult, IfOk, OnOk, OnErr, vec_len, vec_capacity};
+ghost use Rattle.ds_base.specs.Times.{hour};
 ghost use Rattle.ds_base.specs.declared.profile_row.ProfileRow.{ProfileRow};
 ghost use Rattle.profiles.specs.Delays.{delays, delay_between, times_between};
 ghost use Rattle.profiles.specs.Rows.{joined, IsSound, count_of};
@@ -76,7 +77,7 @@ fn count(rows: &mut Vec<ProfileRow>, from: u32, to: u32, time: u64)
     requires kept { AreKept rows.old.items }
     requires from_below { from < 64 }
     requires to_below { to < 64 }
-    requires hour { time ≤ 3600000000000 }
+    requires hour { time ≤ hour }
     requires few { count_of from to rows.old.items + 1 < 2 ^ 55 }
     requires room { HasRoom (vec_len rows.old) (vec_capacity rows.old) 1 }
     ensures items { rows.new.items ≡ put (single (record { from = from; to = to; time = time })) rows.old.items }
