@@ -9,6 +9,7 @@ use Rattle.std.proofs.lemmas.Nat.{leading_length}
 use Rattle.std.proofs.lemmas.List.{length-replicate, get_or-replicate}
 use Rattle.std.proofs.Math.Nat.{pow-suc}
 use Rattle.std.proofs.Math.Pow.{pow_mono}
+use Rattle.ds_base.specs.Times.{hour}
 use Rattle.profiles.specs.Rows.{added, IsClass, class_from, class_of}
 
 -- the search for the class of a time finds the least number
@@ -58,7 +59,7 @@ least_class time within =
     subst (IsClass time) (sym is) own
 
 -- a time of an hour has a class below 64
-pub class-few : (time : ℕ) → time ≤ 3600000000000 → class_of time < 64
+pub class-few : (time : ℕ) → time ≤ hour → class_of time < 64
 class-few time h = let least : class_of time ≤ 42 = (least_class time (omega arith)).least 42 (omega arith) in omega arith
 
 -- ---- the sums of classes

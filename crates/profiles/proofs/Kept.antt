@@ -4,6 +4,7 @@ use Rattle.std.specs.Prelude.{Some}
 use Rattle.std.specs.List.{AllByRecursion}
 use Rattle.std.specs.Option.{option_map_or}
 use Rattle.std.proofs.Math.Nat.{add-mul, mul-le-mul_left, le-max_left, le-max_right}
+use Rattle.ds_base.specs.Times.{hour}
 use Rattle.ds_base.specs.declared.profile_row.ProfileRow.{ProfileRow}
 use Rattle.profiles.specs.Delays.{Delay}
 use Rattle.profiles.specs.Rows.{IsSound, row_of, count_of, joined, class_of}
@@ -70,7 +71,7 @@ AreKept-put row rows k t v few =
       width = AreWide-put row rows k.width v;
     }
 
-pub IsSound-single : (d : Delay) → d.from < 64 → d.to < 64 → d.time ≤ 3600000000000 → IsSound (single d)
+pub IsSound-single : (d : Delay) → d.from < 64 → d.to < 64 → d.time ≤ hour → IsSound (single d)
 IsSound-single d f t h = record {
   from_below = f;
   to_below = t;

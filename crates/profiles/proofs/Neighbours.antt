@@ -2,6 +2,7 @@
 use Rattle.std.proofs.Common.{ℕ, List, [], ◌∷◌, ◌≡◌, ◌<◌, ◌≤◌, ◌+◌, ◌^◌, inl, inr, suc, zero, refl, sym, ap, subst, ◌∙◌, arith, length, drop, length-drop}
 use Rattle.std.specs.Prelude.{Some, All, slice_get}
 use Rattle.std.specs.List.{AllByRecursion}
+use Rattle.ds_base.specs.Times.{hour}
 use Rattle.ds_base.proofs.Places.{drop_at}
 use Rattle.ds_base.specs.Order.{Precedes, InStampOrder}
 use Rattle.ds_base.specs.declared.stamp.Stamp.{Stamp}
@@ -48,15 +49,15 @@ times-rise l i a b o h k =
 all-rest : {X : Type 0} (P : X → Type 0) (x : X) (xs : List X) → All P (x ∷ xs) → All P xs
 all-rest P x xs h k d lt = h (suc k) d (omega arith)
 
-lawful : (l : List Summary) → All (λ member. member.at.capture < 64) l → All (λ d. d.time ≤ 3600000000000) (delays l) → AllByRecursion IsLawful (delays l)
+lawful : (l : List Summary) → All (λ member. member.at.capture < 64) l → All (λ d. d.time ≤ hour) (delays l) → AllByRecursion IsLawful (delays l)
 lawful [] c h = tt
 lawful (a ∷ []) c h = tt
 lawful (a ∷ b ∷ l) c h = (
   (c 0 a (omega arith), c 1 a (omega arith), h 0 (delay_between a b) (omega arith)),
-  lawful (b ∷ l) (all-rest (λ (m : Summary). m.at.capture < 64) a (b ∷ l) c) (all-rest (λ (d : Delay). d.time ≤ 3600000000000) (delay_between a b) (delays (b ∷ l)) h),
+  lawful (b ∷ l) (all-rest (λ (m : Summary). m.at.capture < 64) a (b ∷ l) c) (all-rest (λ (d : Delay). d.time ≤ hour) (delay_between a b) (delays (b ∷ l)) h),
 )
 
-pub CanCount-group : (l : List Summary) (rows : List ProfileRow) → AreKept rows → All (λ member. member.at.capture < 64) l → All (λ d. d.time ≤ 3600000000000) (delays l)
+pub CanCount-group : (l : List Summary) (rows : List ProfileRow) → AreKept rows → All (λ member. member.at.capture < 64) l → All (λ d. d.time ≤ hour) (delays l)
     → ((from to : ℕ) → count_of from to rows + length (times_between from to (delays l)) < 2 ^ 55) → CanCount (delays l) rows
 CanCount-group l rows k c h few = record { kept = k; lawful = lawful l c h; few = few }
 

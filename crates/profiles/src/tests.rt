@@ -1,6 +1,7 @@
 //! A profile of small groups, by hand.
 
 ghost use Rattle.std.specs.Prelude.{ℕ, ◌≡◌, ◌<◌, ◌≤◌, ◌+◌, ◌⊎◌, ◌∷◌, [], IfOk};
+ghost use Rattle.ds_base.specs.Times.{hour};
 ghost use Rattle.ds_base.specs.Order.{Precedes};
 ghost use Rattle.profiles.specs.Rows.{count_of};
 
@@ -44,7 +45,7 @@ fn profile_of(alloc: Global, one: Summary, two: Summary, three: Summary) -> Resu
     requires captures { (one.at.capture < 64) × (two.at.capture < 64) × (three.at.capture < 64) }
     requires first { Precedes one.at two.at }
     requires second { Precedes two.at three.at }
-    requires hour { three.at.time ≤ one.at.time + 3600000000000 }
+    requires hour { three.at.time ≤ one.at.time + hour }
     ensures { IfOk result (λ profile. (from to : ℕ) → count_of from to profile ≤ 2) }
 {
     let group = group_of(alloc, one, two, three)?;
