@@ -1,0 +1,10 @@
+pub mod Spelling
+pub mod Bytes
+pub mod Exact
+pub mod Reading
+pub mod Exactness
+pub mod Verdicts
+pub mod Frames
+pub mod Decoded
+pub mod Framed
+pub mod Links
