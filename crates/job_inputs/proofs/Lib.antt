@@ -1,0 +1,5 @@
+pub mod JobCaptures
+pub mod Missing
+pub mod Opened
+pub mod Collecting
+pub mod Filling

@@ -1,0 +1,5 @@
+pub mod Faults
+pub mod Jobs
+pub mod JobFile
+pub mod Gathering
+pub mod Captures
