@@ -1,11 +1,11 @@
 -- The text of a field reads as its parts, and no other text does.
 use Rattle.std.proofs.Common.{◌≡◌, ℕ, zero, suc, ◌+◌, ◌-◌, ◌/◌, ◌%◌, ◌<◌, ◌≤◌, Bool, true, false, cond, List, [], ◌∷◌, ◌++◌, length, take, drop, get_or, Option, Some, None, map, position, refl, sym, subst, ap, ◌∙◌, arith, lit<, eqb-true, eq-eqb, lt-ltb, add-one, below_more, length-append, option_and_then}
 use Rattle.std.proofs.Math.Seq.{drop-cons, drop-append-add, take-append_seam}
-use Rattle.std.proofs.lemmas.Bool.{leb-true}
+use Rattle.std.proofs.lemmas.Bool.{and_parts, leb-true}
 use Rattle.std.proofs.lemmas.Fmt.{decimal_digit, decimal_step}
 use Rattle.std.proofs.lemmas.List.{length-map, take-append-drop}
 use Rattle.std.proofs.lemmas.List.Quantifiers.{position-Some}
-use Rattle.std.proofs.lemmas.Option.{cond_some, option_and_then_some, unwrap_or-slice_get}
+use Rattle.std.proofs.lemmas.Option.{cond_some, same_Some, option_and_then_some, unwrap_or-slice_get}
 use Rattle.std.proofs.lemmas.Slice.Eq.{bytes_eq-Decides}
 use Rattle.std.specs.Fmt.{decimal, digits}
 use Rattle.std.specs.List.{find, list_all, position_or_len}
@@ -24,14 +24,6 @@ place-map p f (x ∷ xs) = ap (λ n. cond (not (p (f x))) (1 + n) 0) (place-map 
 pub position-map : {A B : Type 0} (p : B → Bool) (f : A → B) (xs : List A) → position p (map f xs) ≡ position (λ x. p (f x)) xs
 position-map p f xs = rw (place-map p f xs, length-map xs f) refl
 
-some_same : {A : Type 0} {x y : A} → Some x ≡ Some y → x ≡ y
-some_same e = cc
-
--- what a test says
-and_parts : (a b : Bool) → (a && b) ≡ true → (a ≡ true) × (b ≡ true)
-and_parts true b h = (refl, h)
-and_parts false b h = cc
-
 -- either side of a choice
 cond_cases : {A P : Type 0} (test : Bool) (x y z : A) → cond test x y ≡ z → (test ≡ true → x ≡ z → P) → (test ≡ false → y ≡ z → P) → P
 cond_cases true x y z e on off = on refl e
@@ -46,14 +38,14 @@ split_parts mark bytes parts e =
     let here : get_or bytes at 0 ≡ mark = eqb-true (get_or bytes at 0) mark facts.1 in
     let within : at < length bytes = facts.0 in
     let rest : drop at bytes ≡ mark ∷ drop (at + 1) bytes = drop-cons bytes at 0 within ∙ (ap (λ b. b ∷ drop (suc at) bytes) here ∙ ap (λ n. mark ∷ drop n bytes) (sym (add-one at))) in
-    let same : (take at bytes, drop (at + 1) bytes) ≡ parts = some_same cut in
+    let same : (take at bytes, drop (at + 1) bytes) ≡ parts = same_Some _ _ cut in
     sym (take-append-drop at bytes) ∙ (ap (λ bs. take at bytes ++ bs) rest ∙ ap (λ p. p.0 ++ (mark ∷ p.1)) same))
 
 kind_found : (word : List ℕ) (ks : List Kind) (kind : Kind) → find (λ k. bytes_eq (kind_text k) word) ks ≡ Some kind → word ≡ kind_text kind
 kind_found word [] kind e = cc
 kind_found word (k ∷ ks) kind e =
     cond_cases (bytes_eq (kind_text k) word) (Some k) (find (λ q. bytes_eq (kind_text q) word) ks) (Some kind) e
-    (λ yes same. sym ((bytes_eq-Decides (kind_text k) word).0 yes) ∙ ap kind_text (some_same same))
+    (λ yes same. sym ((bytes_eq-Decides (kind_text k) word).0 yes) ∙ ap kind_text (same_Some _ _ same))
     (λ no rest. kind_found word ks kind rest)
 
 name_found : (kind : Kind) (name : List ℕ) (field : ℕ) → number_of_name kind name ≡ Some field → (name ≡ name_of kind field) × (field < length (names_of kind))
@@ -281,4 +273,4 @@ parts_found text kind way field e =
     option_and_then_some _ (index_of index.0) _ rest (λ w way_read rest.
     option_and_then_some _ (behind_point index.1) _ rest (λ name pointed rest.
     option_and_then_some _ (number_of_name k name) _ rest (λ f named same.
-    subst (λ t. IsText text t.0 t.1 t.2) (some_same same) (joined text front index k w name f cut closed kind_is way_read pointed named)))))))
+    subst (λ t. IsText text t.0 t.1 t.2) (same_Some _ _ same) (joined text front index k w name f cut closed kind_is way_read pointed named)))))))

@@ -1,4 +1,5 @@
 use Rattle.std.proofs.Common.{◌≡◌, List, ℕ, Bool, Some, None, sym, ap, ◌∙◌}
+use Rattle.std.proofs.lemmas.Option.{none-some, same_Some}
 use Rattle.field_table.specs.declared.kind.Kind.{Kind}
 use Rattle.field_table.specs.declared.field_ref.FieldRef.{FieldRef}
 use Rattle.field_table.specs.FieldText.{field_text}
@@ -6,12 +7,6 @@ use Rattle.field_table.specs.Reading.{parts_of}
 use Rattle.field_table.proofs.ReadingLemmas.{parts_again, parts_found}
 use Rattle.field_table.proofs.SameRef.{same_ref}
 use Rattle.field_table.proofs.fields.field.Goals as goal
-
-some_same : {A : Type 0} {x y : A} → Some x ≡ Some y → x ≡ y
-some_same e = cc
-
-none_some : {A B : Type 0} {x : A} → None ≡ Some x → B
-none_some e = cc
 
 -- the text of a reference has its parts
 again : (text : List ℕ) (f : FieldRef) → text ≡ field_text f → parts_of text ≡ Some (f.kind, (f.inside, f.steps), f.field)
@@ -21,14 +16,14 @@ again text f e = ap parts_of e ∙ parts_again f.kind f.inside f.steps f.field f
 -- a reference whose parts a text has is the one that the text spells
 same : (text : List ℕ) (r f : FieldRef) → parts_of text ≡ Some (r.kind, (r.inside, r.steps), r.field) → text ≡ field_text f → Some r ≡ Some f
 same text r f read spelled =
-    let one : ◌≡◌ {A = Kind × (Bool × ℕ) × ℕ} (r.kind, (r.inside, r.steps), r.field) (f.kind, (f.inside, f.steps), f.field) = some_same (sym read ∙ again text f spelled) in
+    let one : ◌≡◌ {A = Kind × (Bool × ℕ) × ℕ} (r.kind, (r.inside, r.steps), r.field) (f.kind, (f.inside, f.steps), f.field) = same_Some _ _ (sym read ∙ again text f spelled) in
     ap Some (same_ref r f (ap (λ p. p.0) one) (ap (λ p. p.1.0) one) (ap (λ p. p.1.1) one) (ap (λ p. p.2) one))
 
 pub returns-in_err-kind-clause-only : goal.returns-in_err-kind-clause-only
 returns-in_err-kind-clause-only c f spelled =
     let none : parts_of c.args.text.now ≡ None = ap parts_of (sym c.as_bytes.ensures.value) ∙ (sym c.parts.ensures ∙ c.in_err-kind.was) in
     let some = again c.args.text.now f spelled in
-    none_some (sym none ∙ some)
+    absurd (none-some _ (sym none ∙ some))
 
 pub invariant_of-result : goal.invariant_of-result
 invariant_of-result c =
