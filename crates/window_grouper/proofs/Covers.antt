@@ -75,7 +75,7 @@ all_filter p P each (s ∷ l) =
     (λ (no : p s ≡ false). rw no (all_filter p P each l))
     (cases_Bool (p s))
 
-filter-none : (p : Summary → Bool) (P : Summary → Type 0) → ((s : Summary) → P s → p s ≡ false) → (l : List Summary)
+pub filter-none : (p : Summary → Bool) (P : Summary → Type 0) → ((s : Summary) → P s → p s ≡ false) → (l : List Summary)
     → AllByRecursion P l → filter p l ≡ []
 filter-none p P each [] h = refl
 filter-none p P each (s ∷ l) h = rw (each s h.0) (filter-none p P each l h.1)

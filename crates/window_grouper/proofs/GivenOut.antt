@@ -24,19 +24,27 @@ cons_within : (b : Bool) (g : Copies) (gs : List Copies) (k : Copies) → cond b
 cons_within true g gs k = refl
 cons_within false g gs k = refl
 
--- groups that are over stay as they are
-placed-append : (window time : ℕ) (s : Summary) (given held : List Copies) → AllByRecursion (IsOver window time) given → time ≤ s.at.time
+-- groups that do not take a summary stay as they are
+pub placed-append : (window : ℕ) (s : Summary) (given held : List Copies) → AllByRecursion (λ g. takes window g s ≡ false) given
     → placed window s (given ++ held) ≡ given ++ placed window s held
-placed-append window time s [] held over later = refl
-placed-append window time s (g ∷ given) held over later =
-    let past : takes window g s ≡ false = ⊎_elim
+placed-append window s [] held past = refl
+placed-append window s (g ∷ given) held past =
+    let own : takes window g s ≡ false = past.0 in
+    let gs : List Copies = given ++ held in
+    rw own
+    (cons_within (list_any (λ k. takes window k s) gs) g (map (grown window s) gs) (single s)
+    ∙ ap (λ (ks : List Copies). g ∷ ks) (placed-append window s given held past.1))
+
+-- groups that are over take nothing
+over_past : (window time : ℕ) (s : Summary) (given : List Copies) → AllByRecursion (IsOver window time) given → time ≤ s.at.time
+    → AllByRecursion (λ g. takes window g s ≡ false) given
+over_past window time s [] over later = tt
+over_past window time s (g ∷ given) over later =
+    let own : takes window g s ≡ false = ⊎_elim
     (λ (yes : takes window g s ≡ true). absurd (over_takes_not window time g.key g.members s over.0 later yes))
     (λ (no : takes window g s ≡ false). no)
     (cases_Bool (takes window g s)) in
-    let gs : List Copies = given ++ held in
-    rw past
-    (cons_within (list_any (λ k. takes window k s) gs) g (map (grown window s) gs) (single s)
-    ∙ ap (λ (ks : List Copies). g ∷ ks) (placed-append window time s given held over.1 later))
+    (own, over_past window time s given over.1 later)
 
 no_later : (front : List Summary) (s : Summary) → InStampOrder (front ++ s ∷ []) → AllByRecursion (λ t. t.at.time ≤ s.at.time) front
 no_later [] s h = tt
@@ -61,7 +69,7 @@ all_begun : (window time : ℕ) (gs : List Copies) → AllByRecursion (IsGroup w
 all_begun window time [] h k = tt
 all_begun window time (g ∷ gs) h k = (begun_by time g.members h.0.filled k.0, all_begun window time gs h.1 k.1)
 
-all_behind : (Q : Copies → Type 0) → (given held : List Copies) → AllByRecursion Q (given ++ held) → AllByRecursion Q held
+pub all_behind : (Q : Copies → Type 0) → (given held : List Copies) → AllByRecursion Q (given ++ held) → AllByRecursion Q held
 all_behind Q [] held h = h
 all_behind Q (g ∷ given) held h = all_behind Q given held h.1
 
@@ -80,7 +88,7 @@ pub placed_more : (old new : Open) (s : Summary) → new.window ≡ old.window
 placed_more old new s same held window front given time before later ordered = record {
   one_window = same ∙ before.one_window;
   groups = groups_of-push window front s ∙ ap (placed window s) before.groups
-      ∙ placed-append window time s given old.held before.over later
+      ∙ placed-append window s given old.held (over_past window time s given before.over later)
       ∙ ap (λ (w : ℕ). given ++ placed w s old.held) (sym before.one_window)
       ∙ ap (λ (gs : List Copies). given ++ gs) (sym (held (have_begun window front given old.held s ordered before.groups)));
   over = before.over;
@@ -140,7 +148,7 @@ still_open window time (f ∷ fs) (g ∷ gs) each ordered reaches =
           let own : time ≤ k.at.time + window = omega arith in
           (own, rest h.1 own)
 
-ordered_held : (given held : List Copies) → InStampOrder (firsts (members_of (given ++ held))) → InStampOrder (firsts (members_of held))
+pub ordered_held : (given held : List Copies) → InStampOrder (firsts (members_of (given ++ held))) → InStampOrder (firsts (members_of held))
 ordered_held [] held h = h
 ordered_held (g ∷ given) held h = ordered_held given held (tail g.members (members_of (given ++ held)) h) where
   tail : (m : List Summary) (ms : List (List Summary)) → InStampOrder (firsts (m ∷ ms)) → InStampOrder (firsts ms)

@@ -1,10 +1,10 @@
 -- A list whose stamps differ has one list in stamp order, which insertion computes.
-use Rattle.std.proofs.Common.{ℕ, Bool, true, false, cond, List, [], ◌∷◌, ◌≡◌, ◌<◌, ◌+◌, ◌⊎◌, suc, zero, refl, sym, ap, subst, ◌∙◌, arith, ⊎_elim, inl, inr, length, drop, get_or}
+use Rattle.std.proofs.Common.{ℕ, Bool, true, false, cond, List, [], ◌∷◌, ◌++◌, ◌≡◌, ◌<◌, ◌+◌, ◌⊎◌, suc, zero, refl, sym, ap, subst, ◌∙◌, arith, ⊎_elim, inl, inr, length, drop, get_or}
 use Rattle.std.specs.Prelude.{Some, slice_get}
 use Rattle.std.specs.List.{Contains}
 use Rattle.std.specs.List.Sorted.{IsPermutation}
 use Rattle.std.proofs.lemmas.Bool.{cases_Bool}
-use Rattle.std.proofs.lemmas.List.{drop_more}
+use Rattle.std.proofs.lemmas.List.{drop_more, append-nil}
 use Rattle.std.proofs.lemmas.List.Elements.{Contains-append_right, Contains-append_cases}
 use Rattle.std.proofs.lemmas.List.Sorted.{IsPermutation-refl, IsPermutation-cons, IsPermutation-sym, IsPermutation-trans, IsPermutation-middle, Contains-permutation, length_permutation}
 use Rattle.std.proofs.lemmas.Option.{slice_get_within, get_or_from_slice_get}
@@ -64,7 +64,7 @@ differs-by_stamp at (s ∷ ss) d h =
 
 -- ---- what insertion gives
 
-in_order-insert : (s : Summary) (ss : List Summary) → DiffersFromAll s.at ss → InStampOrder ss → InStampOrder (insert_by_stamp s ss)
+pub in_order-insert : (s : Summary) (ss : List Summary) → DiffersFromAll s.at ss → InStampOrder ss → InStampOrder (insert_by_stamp s ss)
 in_order-insert s [] d h = (tt, tt)
 in_order-insert s (x ∷ xs) d h =
     placed_by InStampOrder s x xs d.0 (λ (f : Precedes s.at x.at). in_order-front s x xs f h)
@@ -83,7 +83,7 @@ pub by_stamp-in_order : (l : List Summary) → InStampOrder l → by_stamp l ≡
 by_stamp-in_order [] h = refl
 by_stamp-in_order (s ∷ ss) h = ap (insert_by_stamp s) (by_stamp-in_order ss h.1) ∙ insert_front s ss h.0
 
-same-insert : (s : Summary) (ss : List Summary) → IsPermutation (s ∷ ss) (insert_by_stamp s ss)
+pub same-insert : (s : Summary) (ss : List Summary) → IsPermutation (s ∷ ss) (insert_by_stamp s ss)
 same-insert s [] = IsPermutation-refl (s ∷ [])
 same-insert s (x ∷ xs) =
     ⊎_elim
@@ -172,7 +172,7 @@ same_list (x ∷ xs) (y ∷ ys) hx hy there back =
 within_permutation : (xs ys : List Summary) → IsPermutation xs ys → Within xs ys
 within_permutation xs ys h z c = Contains-permutation xs ys z h c
 
-order_is_unique : (l xs ys : List Summary) → IsInStampOrderOf l xs → IsInStampOrderOf l ys → xs ≡ ys
+pub order_is_unique : (l xs ys : List Summary) → IsInStampOrderOf l xs → IsInStampOrderOf l ys → xs ≡ ys
 order_is_unique l xs ys hx hy =
     let across : IsPermutation xs ys = IsPermutation-trans xs l ys (IsPermutation-sym l xs hx.same) hy.same in
     same_list xs ys hx.ordered hy.ordered (within_permutation xs ys across) (within_permutation ys xs (IsPermutation-sym xs ys across))
@@ -181,3 +181,36 @@ pub one_order : (l : List Summary) → OneOrder l
 one_order l d =
     let own : IsInStampOrderOf l (by_stamp l) = record { ordered = in_order-by_stamp l d; same = same-by_stamp l } in
     (own, λ sorted h. order_is_unique l sorted (by_stamp l) h own)
+
+-- ---- one summary more
+
+differs-append : (at : Stamp) (l : List Summary) (s : Summary) → DiffersFromAll at (l ++ s ∷ [])
+    → DiffersFromAll at l × (Precedes at s.at ⊎ Precedes s.at at)
+differs-append at [] s h = (tt, h.0)
+differs-append at (x ∷ l) s h = let rest = differs-append at l s h.1 in ((h.0, rest.0), rest.1)
+
+other_way : (a b : Stamp) → Precedes a b ⊎ Precedes b a → Precedes b a ⊎ Precedes a b
+other_way a b h = ⊎_elim (λ (l : Precedes a b). inr l) (λ (r : Precedes b a). inl r) h
+
+-- of a list whose stamps differ, the last stamp differs from all before it, which differ
+pub differ-parts : (l : List Summary) (s : Summary) → StampsDiffer (l ++ s ∷ []) → StampsDiffer l × DiffersFromAll s.at l
+differ-parts [] s h = (tt, tt)
+differ-parts (x ∷ l) s h =
+    let first = differs-append x.at l s h.0 in
+    let rest = differ-parts l s h.1 in
+    ((first.0, rest.0), (other_way x.at s.at first.1, rest.1))
+
+permutation-push : (l : List Summary) (s : Summary) → IsPermutation (l ++ s ∷ []) (s ∷ l)
+permutation-push l s = subst (λ (k : List Summary). IsPermutation (l ++ s ∷ []) (s ∷ k)) (append-nil l) (IsPermutation-middle l s [])
+
+-- the last summary of a list is put where its stamp has it
+pub by_stamp-push : (l : List Summary) (s : Summary) → StampsDiffer (l ++ s ∷ []) → by_stamp (l ++ s ∷ []) ≡ insert_by_stamp s (by_stamp l)
+by_stamp-push l s h =
+    let parts = differ-parts l s h in
+    let own : IsInStampOrderOf (l ++ s ∷ []) (insert_by_stamp s (by_stamp l)) = record {
+      ordered = in_order-insert s (by_stamp l) (differs-by_stamp s.at l parts.0 parts.1) (in_order-by_stamp l parts.0);
+      same = IsPermutation-trans (l ++ s ∷ []) (s ∷ l) (insert_by_stamp s (by_stamp l)) (permutation-push l s)
+          (IsPermutation-trans (s ∷ l) (s ∷ by_stamp l) (insert_by_stamp s (by_stamp l))
+          (IsPermutation-cons s l (by_stamp l) (same-by_stamp l)) (same-insert s (by_stamp l)));
+    } in
+    sym ((one_order (l ++ s ∷ []) h).1 (insert_by_stamp s (by_stamp l)) own)

@@ -14,3 +14,8 @@ pub mod Stamps
 pub mod Insertion
 pub mod Positions
 pub mod Entries
+pub mod Later
+pub mod Shards
+pub mod Passing
+pub mod Standing
+pub mod Waiting

@@ -1,5 +1,5 @@
 -- The order of two stamps, as the contracts and as the program say it.
-use Rattle.std.proofs.Common.{true, false, ◌≡◌, ◌<◌, ◌⊎◌, refl, sym, arith, inl, inr}
+use Rattle.std.proofs.Common.{true, false, ◌≡◌, ◌<◌, ◌≤◌, ◌⊎◌, refl, sym, arith, inl, inr}
 use Rattle.std.specs.Ordering.{MatchOrdering, nat_cmp, ordering_then}
 use Rattle.std.specs.declared.cmp.Ordering.{Ordering}
 use Rattle.std.specs.declared.cmp.Ordering.TheVariants.{Less, Equal, Greater}
@@ -33,6 +33,10 @@ before_true a b h = grind (arith, nat_tests)
 
 pub before_false : (a b : Stamp) → Precedes b a → is_before a b ≡ false
 before_false a b h = grind (arith, nat_tests)
+
+-- what is before is no later
+pub before_time : (a b : Stamp) → is_before a b ≡ true → a.time ≤ b.time
+before_time a b h = grind (arith, nat_tests)
 
 -- ---- the program's order
 

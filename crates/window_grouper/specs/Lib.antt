@@ -4,5 +4,8 @@ pub mod Newest
 pub mod Over
 pub mod Open
 pub mod Placing
+pub mod Closed
+pub mod Grouping
+pub mod Waiting
 pub mod Sorted
 pub mod Positions

@@ -1,5 +1,6 @@
-ghost use Rattle.std.specs.Prelude.{ℕ, List};
+ghost use Rattle.std.specs.Prelude.{ℕ, Bool, List};
 ghost use Rattle.ds_base.specs.declared.summary.Summary.{Summary};
+ghost use Rattle.window_grouper.specs.Closed.{ClosedStay, ShardGroups};
 ghost use Rattle.window_grouper.specs.Cut.{OneCut};
 ghost use Rattle.window_grouper.specs.Groups.{OneGrouping, AllGrouped};
 
@@ -19,4 +20,17 @@ pub fn one_grouping()
 /// many members as the list has summaries.
 pub fn all_grouped()
     ensures { (window : ℕ) (l : List Summary) → AllGrouped window l }
+{}
+
+/// A law: where a test on times tells which times come no more, the groups of a list that are closed, up
+/// to the first that is not, are those of any longer list whose further summaries may still come. So
+/// what is closed is a front of the groups of all that comes later, and changes no more.
+pub fn closed_stay()
+    ensures { (p : ℕ → Bool) (window : ℕ) (l later : List Summary) → ClosedStay p window l later }
+{}
+
+/// A law: the groups of the summaries whose keys pass a test are the groups whose keys pass, in the same
+/// order. So each shard can be grouped by itself.
+pub fn shard_groups()
+    ensures { (test : List ℕ → Bool) (window : ℕ) (l : List Summary) → ShardGroups test window l }
 {}

@@ -58,6 +58,13 @@ impl OpenGroups {
         }
     }
 
+    /// The window in nanoseconds.
+    pub fn window(&self) -> u64
+        ensures { result ≡ self.now.window }
+    {
+        self.window
+    }
+
     /// Places a summary that is behind all that were placed: in the newest group of its key where its
     /// time is in that group's window, and else in a group of its own. The only refusal is want of
     /// memory, and then the groups are as they were.
