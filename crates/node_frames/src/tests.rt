@@ -84,7 +84,8 @@ fn is_spelled(rt: &impl Abort, alloc: Global, wire: &Wire, bytes: &[u8]) -> Resu
     assert!(rt; can_stand(wire));
     let out = spelling(alloc, wire)?;
     let (word, payload) = out.as_slice().split_at_checked(4).ok_or("short")?;
-    assert_eq!(rt; word, (bytes.len() as u32).to_be_bytes().as_slice());
+    let length = (bytes.len() as u64).to_be_bytes();
+    assert_eq!(rt; word, &length[4..]);
     assert_eq!(rt; payload, bytes);
     assert_eq!(rt; decode(bytes), Ok(*wire));
     for end in 0..bytes.len() {
