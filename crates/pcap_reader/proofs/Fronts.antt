@@ -57,7 +57,7 @@ begins_append f xs ys h =
       whole = omega (arith, p.whole, e, length-append xs ys);
     })
 
--- the first record and what stands behind it, where bytes follow
+-- the first record and what stands after it, where bytes follow
 pub first_append : (f : Format) (number : ℕ) (xs ys : List ℕ) → begins_record f xs ≡ true → first_record f number (xs ++ ys) ≡ first_record f number xs
 first_append f number xs ys h =
     let p : Fits f xs = begins_fits f xs h in
@@ -108,7 +108,7 @@ choose_first p q r x y b hp hq hx = rw (hp, hq, hx) refl
 choose_second : (p q r : Bool) (x y b : Bad) → p ≡ false → r ≡ true → y ≡ b → cond p (cond q (Some x) None) (cond r (Some y) None) ≡ Some b
 choose_second p q r x y b hp hr hy = rw (hp, hr, hy) refl
 
--- the two malformed places behind whole records
+-- the two malformed places after whole records
 pub record IsTooLong (f : Format) (count at : ℕ) (xs : List ℕ) (b : Bad) : Type 0 where
   pub few : count < most_records
   pub header : 16 ≤ length xs

@@ -41,7 +41,7 @@ bad_of_fault b bytes h = ap (λ r. bad_under r bytes) h
 pub format_append : (xs ys : List ℕ) → 24 ≤ length xs → file_format (xs ++ ys) ≡ file_format xs
 format_append xs ys h = ap header_of (take-append-le 24 xs ys h)
 
--- The header was read, and the reader stands behind it.
+-- The header was read, and the reader stands after it.
 pub opened : (f : Format) (old new : Reader) (fed : List ℕ) (given : List Captured)
     → IsUnopened old fed → length given ≡ old.count → 24 ≤ length old.rest → header_of (take 24 old.rest) ≡ Ok f
     → new.count ≡ old.count → new.rest ≡ drop 24 old.rest → IsOpened f new fed given

@@ -23,7 +23,7 @@ abbrev pub rest_under : Result Format Bad → List ℕ → List ℕ
 rest_under (Ok format) bytes = behind_records format most_records (drop 24 bytes)
 rest_under (Err bad) bytes = bytes
 
--- what stands behind the whole records
+-- what stands after the whole records
 unfoldable pub good_rest : List ℕ → List ℕ
 good_rest bytes = rest_under (file_format bytes) bytes
 

@@ -1,5 +1,6 @@
 -- What a call of `next` answers and does.
 use Rattle.std.specs.Prelude.{◌≡◌, ℕ, ◌-◌, drop, take, ◌≤◌, ◌<◌, ◌^◌, ◌⊎◌, List, [], ◌∷◌, ◌++◌, true, false, length, Option, Some, None, Result, Err, MatchOption, MatchResult, ◌+◌}
+use Rattle.ds_base.specs.Times.{hour}
 use Rattle.ds_base.specs.declared.capture.Bad.{Bad}
 use Rattle.pcap_reader.specs.declared.format.Format.{Format}
 use Rattle.pcap_reader.specs.declared.record.RecordRef.{RecordRef}
@@ -14,10 +15,10 @@ use Rattle.pcap_reader.specs.Reader.{Reader, StandsFor, WaitsAt, IsWaiting, byte
 abbrev pub captured : RecordRef → Captured
 captured r = record { number = r.number; time = r.time; link = r.link; orig = r.orig; bytes = r.bytes.now }
 
--- the bounds that a record keeps
+-- The bounds that a record keeps. Its time is so far below 2^63 that an hour can be added.
 pub record IsLawful (r : Captured) : Type 0 where
   pub number : r.number < 2 ^ 40
-  pub time : r.time < 2 ^ 63
+  pub time : r.time + hour < 2 ^ 63
   pub link : (r.link ≡ 1) ⊎ (r.link ≡ 101)
   pub length : length r.bytes ≤ 262144
 

@@ -49,7 +49,7 @@ pub record IsUnopened (reader : Reader) (fed : List ℕ) : Type 0 where
   pub count : reader.count ≡ 0
 
 -- A reader that has read it: whatever bytes may follow, the records of all of them are those that were
--- given and then those at the front of what is kept, and the same stands behind them.
+-- given and then those at the front of what is kept, and the same stands after them.
 pub record IsOpened (format : Format) (reader : Reader) (fed : List ℕ) (given : List Captured) : Type 0 where
   pub header : (more : List ℕ) → file_format (fed ++ more) ≡ Ok format
   pub records : (more : List ℕ) → (good (fed ++ more)).records

@@ -37,7 +37,7 @@ abbrev pub OneReading : Type 0
 OneReading = (format : Format) (most : ℕ) (bytes : List ℕ) (slices others : List (List ℕ)) (rest left : List ℕ)
     → IsReading format most bytes slices rest → IsReading format most bytes others left → (slices ≡ others) × (rest ≡ left)
 
--- The records of a file with a lawful header are those that a reading of the bytes behind it shows.
+-- The records of a file with a lawful header are those that a reading of the bytes after it shows.
 pub record ReadingOf (format : Format) (bytes : List ℕ) : Type 0 where
   pub slices : List (List ℕ)
   pub rest : List ℕ

@@ -1,5 +1,5 @@
--- The records of a capture file (libpcap file format 2.4), which stand one after the other behind its
--- header: 16 bytes with seconds, fraction, captured length and original length, and the captured bytes.
+-- The records of a capture file (libpcap file format 2.4), which follow its header one after another: 16 bytes
+-- with seconds, fraction, captured length and original length, and the captured bytes.
 use Rattle.std.specs.Prelude.{◌≡◌, ◌<◌, ℕ, zero, suc, ◌+◌, ◌*◌, List, [], ◌∷◌, Bool, true, false, length, take, drop, Option, Some, None, Result, MatchOption, MatchResult, nat_lt, nat_le, ◌&&◌, if◌then◌else◌}
 use Rattle.ds_base.specs.declared.capture.Bad.{Bad}
 use Rattle.ds_base.specs.declared.capture.PcapFault.TheVariants.{TooLong, TooMany}
@@ -49,13 +49,13 @@ whole_records format (suc most) number bytes =
     then first_record format number bytes ∷ whole_records format most (suc number) (drop (record_length format bytes) bytes)
     else []
 
--- what stands behind them
+-- what stands after them
 unfoldable pub behind_records : Format → (most : ℕ) → List ℕ → List ℕ
 behind_records format zero bytes = bytes
 behind_records format (suc most) bytes =
     if begins_record format bytes then behind_records format most (drop (record_length format bytes) bytes) else bytes
 
--- What is wrong behind the whole records, of which there are `count`: `at` is where the rest begins.
+-- What is wrong after the whole records, of which there are `count`: `at` is where the rest begins.
 unfoldable pub record_fault : Format → (count at : ℕ) → List ℕ → Option Bad
 record_fault format count at rest =
     if nat_lt count most_records

@@ -5,7 +5,7 @@ ghost use Rattle.pcap_reader.specs.Laws.{GivenAreFirst, WaitingHasAll};
 ghost use Rattle.pcap_reader.specs.Numbering.{NumberedFrom};
 ghost use Rattle.pcap_reader.specs.Reading.{HasReading, OneReading};
 
-/// What a capture file holds, said without an order of reading: behind the file header stand records,
+/// What a capture file holds, said without an order of reading: after the file header stand records,
 /// joined, and a rest at whose front no further record stands, and exactly one list of records is so.
 pub fn one_reading()
     ensures reading { HasReading }

@@ -20,7 +20,7 @@ use std::marker::Model;
 /// file call `finish`. Bytes leave memory once their record was given.
 #[derive(Drop)]
 pub struct PcapReader {
-    /// The bytes that were fed and not yet read, behind those of the record that was lent last.
+    /// The bytes that were fed and not yet read, after those of the record that was lent last.
     bytes: Buffer,
     /// Where in the file the bytes begin that were not yet read.
     place: u64,

@@ -1,5 +1,6 @@
 //! One record: where it ends, and what it says.
 ghost use Rattle.std.specs.Prelude.{◌≡◌, ◌+◌, ◌<◌, ◌≤◌, ◌^◌, length, Option, None, Some, IfOk, IfSome, IfNone};
+ghost use Rattle.ds_base.specs.Times.{hour};
 ghost use Rattle.pcap_reader.specs.Records.{begins_record, record_fault, time_of, shown, Finds};
 ghost use Rattle.pcap_reader.specs.Lent.{captured};
 
@@ -20,7 +21,7 @@ pub(crate) const HEADER: usize = 16;
 pub struct RecordRef<'a> {
     /// The record's number in the file, counted from 0, below 2^40.
     pub number: u64,
-    /// When the packet was captured, in nanoseconds since 1970, below 2^63.
+    /// When the packet was captured, in nanoseconds since 1970, more than an hour below 2^63.
     pub time: u64,
     /// The link type word of the file: 1 (Ethernet) or 101 (raw IP).
     pub link: u32,
@@ -75,7 +76,7 @@ pub(crate) fn find_record(
 pub(crate) fn read_time(format: Format, slice: &[u8]) -> u64
     requires { 16 ≤ length slice.now }
     ensures value { result ≡ time_of format slice.now }
-    ensures bound { result < 2 ^ 63 }
+    ensures bound { result + hour < 2 ^ 63 }
 {
     let seconds = u64::from(read_word(format.endian, slice, 0));
     let fraction = u64::from(read_word(format.endian, slice, 4));
@@ -91,7 +92,7 @@ pub(crate) fn read_time(format: Format, slice: &[u8]) -> u64
 pub(crate) fn read_record(format: Format, number: u64, slice: &[u8]) -> RecordRef<'_>
     requires { 16 ≤ length slice.now }
     ensures value { captured result ≡ shown format number slice.now }
-    ensures time { result.time < 2 ^ 63 }
+    ensures time { result.time + hour < 2 ^ 63 }
 {
     RecordRef {
         number,

@@ -2,7 +2,7 @@
 ghost use Rattle.std.specs.Prelude.{◌≡◌, ◌≤◌, ◌<◌, ◌^◌, length, IfOk, IfNone};
 ghost use Rattle.pcap_reader.specs.Reader.{bytes_fed, IsWaiting};
 
-use crate::{PcapReader, RecordRef, check_file, one_reading};
+use crate::{PcapReader, RecordRef, check_file};
 use ds_base::{Bad, PcapFault, Tail};
 use std::alloc::{AllocError, Global};
 use std::process::Abort;
@@ -38,7 +38,7 @@ fn row_of(record: RecordRef<'_>) -> Row {
     )
 }
 
-/// Takes all records that are there, and the malformed place behind them.
+/// Takes all records that are there, and the malformed place after them.
 fn drain(reader: &mut PcapReader, records: &mut Records) -> Result<Option<Bad>, AllocError>
     ensures fed { bytes_fed reader.new ≡ bytes_fed reader.old }
     ensures waiting { IfOk result (λ o. IfNone o (IsWaiting reader.new)) }
@@ -88,280 +88,203 @@ fn joined(alloc: Global, parts: &[&[u8]]) -> Result<Vec<u8>, AllocError> {
     Ok(file)
 }
 
-#[test]
-fn one_packet_is_read_in_pieces_of_any_length(rt: HostRuntime) -> Result<(), Fail> {
-    let alloc = rt.alloc();
-    let head = b"\x01\x00\x00\x00\x00\x00\x00\x00\x2A\x00\x00\x00\x2A\x00\x00\x00";
-    let file = joined(alloc, &[HEADER, head, PACKET])?;
-    assert!(rt; file.len() == 82);
-    for piece in [1, 2, 3, 7, 16, 4096] {
-        let mut records = Records {
-            rows: Vec::new(alloc),
-            bytes: Vec::new(alloc),
-        };
-        let end = read_file(alloc, file.as_slice(), piece, &mut records)?;
-        assert_eq!(rt;
-            end,
-            Ok(Tail {
-                records: 1,
-                cut: false
-            }),
-            "pieces of {piece}"
-        );
-        assert_eq!(rt;
-            records.rows.as_slice(),
-            [Row(0, 1_000_000_000, 1, 42, 42)].as_slice()
-        );
-        assert_eq!(rt; records.bytes.as_slice(), PACKET.as_slice());
-    }
-    one_reading();
-    Ok(())
+/// The first eight bytes of a file: magic number and version, in both orders and units.
+const LITTLE_MICROS: &[u8; 8] = b"\xD4\xC3\xB2\xA1\x02\x00\x04\x00";
+
+const BIG_MICROS: &[u8; 8] = b"\xA1\xB2\xC3\xD4\x00\x02\x00\x04";
+
+const LITTLE_NANOS: &[u8; 8] = b"\x4D\x3C\xB2\xA1\x02\x00\x04\x00";
+
+const BIG_NANOS: &[u8; 8] = b"\xA1\xB2\x3C\x4D\x00\x02\x00\x04";
+
+/// What stands between the version and the link type word.
+const UNUSED: &[u8; 12] = &[0; 12];
+
+/// The header of a record of 42 bytes.
+const HEAD: &[u8; 16] = b"\0\0\0\0\0\0\0\0\x2A\x00\x00\x00\x2A\x00\x00\x00";
+
+/// Headers of records of 262,144 bytes, of one more, and of the most that the word can say.
+const LONGEST: &[u8; 16] = b"\0\0\0\0\0\0\0\0\x00\x00\x04\x00\0\0\0\0";
+
+const TOO_LONG: &[u8; 16] = b"\0\0\0\0\0\0\0\0\x01\x00\x04\x00\0\0\0\0";
+
+const FAR_TOO_LONG: &[u8; 16] = b"\0\0\0\0\0\0\0\0\xFF\xFF\xFF\xFF\0\0\0\0";
+
+fn whole(records: u64) -> Result<Tail, Bad> {
+    Ok(Tail {
+        records,
+        cut: false,
+    })
 }
 
-/// A file of these parts has this fault at this place, whole and in pieces.
-fn finds(
+fn cut(records: u64) -> Result<Tail, Bad> {
+    Ok(Tail { records, cut: true })
+}
+
+fn bad(at: u64, what: PcapFault) -> Result<Tail, Bad> {
+    Err(Bad { at, what })
+}
+
+/// A file of these parts ends so, by the plain program and in pieces of any length.
+fn ends(
     rt: &impl Abort,
     alloc: Global,
     parts: &[&[u8]],
-    at: u64,
-    what: PcapFault,
+    wanted: Result<Tail, Bad>,
 ) -> Result<(), AllocError> {
     let file = joined(alloc, parts)?;
     assert!(rt; file.len() < 1000);
-    assert_eq!(rt; check_file(file.as_slice()), Err(Bad { at, what }));
-    for piece in [1, 3, 4096] {
+    assert_eq!(rt; check_file(file.as_slice()), wanted);
+    for piece in [1, 2, 3, 7, 16, 4096] {
         let mut records = Records {
             rows: Vec::new(alloc),
             bytes: Vec::new(alloc),
         };
         assert_eq!(rt;
             read_file(alloc, file.as_slice(), piece, &mut records)?,
-            Err(Bad { at, what })
+            wanted
         );
     }
     Ok(())
 }
 
 #[test]
-fn each_fault_has_its_place(rt: HostRuntime) -> Result<(), Fail> {
-    let alloc = rt.alloc();
-    let unused = &[0; 12];
-    finds(&rt, alloc, &[b"\x0A\x0D\x0D\x0A"], 0, PcapFault::PcapNg)?;
-    finds(
-        &rt,
-        alloc,
-        &[b"\xD4\xC3\xB2\xA0\x02\x00"],
-        0,
-        PcapFault::Magic,
-    )?;
-    finds(&rt, alloc, &[], 0, PcapFault::ShortHeader { len: 0 })?;
-    finds(
-        &rt,
-        alloc,
-        &[b"\x0A\x0D\x0D"],
-        3,
-        PcapFault::ShortHeader { len: 3 },
-    )?;
-    finds(
-        &rt,
-        alloc,
-        &[&HEADER[..23]],
-        23,
-        PcapFault::ShortHeader { len: 23 },
-    )?;
-    let old = b"\xD4\xC3\xB2\xA1\x02\x00\x03\x00";
-    finds(
-        &rt,
-        alloc,
-        &[old, unused, b"\0\0\0\0"],
-        4,
-        PcapFault::Version { major: 2, minor: 3 },
-    )?;
-    let new = b"\xA1\xB2\xC3\xD4\x00\x03\x00\x04";
-    finds(
-        &rt,
-        alloc,
-        &[new, unused, b"\0\0\0\x01"],
-        4,
-        PcapFault::Version { major: 3, minor: 4 },
-    )?;
-    let little = b"\x4D\x3C\xB2\xA1\x02\x00\x04\x00";
-    finds(
-        &rt,
-        alloc,
-        &[little, unused, b"\x65\0\0\x10"],
-        20,
-        PcapFault::LinkType { word: 0x1000_0065 },
-    )?;
-    let big = b"\xA1\xB2\x3C\x4D\x00\x02\x00\x04";
-    finds(
-        &rt,
-        alloc,
-        &[big, unused, b"\x01\0\0\0"],
-        20,
-        PcapFault::LinkType { word: 0x0100_0000 },
-    )?;
-    let long = b"\0\0\0\0\0\0\0\0\x01\x00\x04\x00\0\0\0\0";
-    finds(
-        &rt,
-        alloc,
-        &[HEADER, long, PACKET],
-        32,
-        PcapFault::TooLong {
-            number: 0,
-            len: 262_145,
-        },
-    )?;
-    let longer = b"\0\0\0\0\0\0\0\0\xFF\xFF\xFF\xFF\0\0\0\0";
-    finds(
-        &rt,
-        alloc,
-        &[HEADER, &[0; 16], longer],
-        48,
-        PcapFault::TooLong {
-            number: 1,
-            len: 0xFFFF_FFFF,
-        },
-    )?;
+fn each_file_ends_as_the_format_says(rt: HostRuntime) -> Result<(), Fail> {
+    let files: [(&[&[u8]], Result<Tail, Bad>); 18] = [
+        (&[b"\x0A\x0D\x0D\x0A"], bad(0, PcapFault::PcapNg)),
+        (&[b"\xD4\xC3\xB2\xA0\x02\x00"], bad(0, PcapFault::Magic)),
+        (&[], bad(0, PcapFault::ShortHeader { len: 0 })),
+        (
+            &[b"\x0A\x0D\x0D"],
+            bad(3, PcapFault::ShortHeader { len: 3 }),
+        ),
+        (
+            &[&HEADER[..23]],
+            bad(23, PcapFault::ShortHeader { len: 23 }),
+        ),
+        (
+            &[b"\xD4\xC3\xB2\xA1\x02\x00\x03\x00", UNUSED, b"\0\0\0\0"],
+            bad(4, PcapFault::Version { major: 2, minor: 3 }),
+        ),
+        (
+            &[b"\xA1\xB2\xC3\xD4\x00\x03\x00\x04", UNUSED, b"\0\0\0\x01"],
+            bad(4, PcapFault::Version { major: 3, minor: 4 }),
+        ),
+        (
+            &[LITTLE_NANOS, UNUSED, b"\x65\0\0\x10"],
+            bad(20, PcapFault::LinkType { word: 0x1000_0065 }),
+        ),
+        (
+            &[BIG_NANOS, UNUSED, b"\x01\0\0\0"],
+            bad(20, PcapFault::LinkType { word: 0x0100_0000 }),
+        ),
+        (
+            &[HEADER, TOO_LONG, PACKET],
+            bad(
+                32,
+                PcapFault::TooLong {
+                    number: 0,
+                    len: 262_145,
+                },
+            ),
+        ),
+        (
+            &[HEADER, &[0; 16], FAR_TOO_LONG],
+            bad(
+                48,
+                PcapFault::TooLong {
+                    number: 1,
+                    len: 0xFFFF_FFFF,
+                },
+            ),
+        ),
+        (&[HEADER], whole(0)),
+        (&[HEADER, HEAD, PACKET], whole(1)),
+        (&[HEADER, &[0; 16]], whole(1)),
+        (&[HEADER, &HEAD[..15]], cut(0)),
+        (&[HEADER, HEAD, &PACKET[..41]], cut(0)),
+        (&[HEADER, LONGEST, PACKET], cut(0)),
+        (&[HEADER, &TOO_LONG[..15]], cut(0)),
+    ];
+    for (parts, wanted) in files {
+        ends(&rt, rt.alloc(), parts, wanted)?;
+    }
     Ok(())
 }
 
-/// A file of these parts behind the header has so many whole records, and is cut or not.
-fn ends(
-    rt: &impl Abort,
-    alloc: Global,
-    parts: &[&[u8]],
-    records: u64,
-    cut: bool,
-) -> Result<(), AllocError> {
-    let rest = joined(alloc, parts)?;
-    let file = joined(alloc, &[HEADER, rest.as_slice()])?;
-    assert!(rt; file.len() < 1000);
-    assert_eq!(rt; check_file(file.as_slice()), Ok(Tail { records, cut }));
-    let mut read = Records {
-        rows: Vec::new(alloc),
-        bytes: Vec::new(alloc),
-    };
-    assert_eq!(rt;
-        read_file(alloc, file.as_slice(), 5, &mut read)?,
-        Ok(Tail { records, cut })
-    );
-    Ok(())
-}
-
-#[test]
-fn a_file_that_ends_inside_a_record_is_cut(rt: HostRuntime) -> Result<(), Fail> {
-    let alloc = rt.alloc();
-    let head = b"\0\0\0\0\0\0\0\0\x2A\x00\x00\x00\x2A\x00\x00\x00";
-    let longest = b"\0\0\0\0\0\0\0\0\x00\x00\x04\x00\0\0\0\0";
-    let long = b"\0\0\0\0\0\0\0\0\x01\x00\x04\x00\0\0\0";
-    ends(&rt, alloc, &[], 0, false)?;
-    ends(&rt, alloc, &[head, PACKET], 1, false)?;
-    ends(&rt, alloc, &[&[0; 16]], 1, false)?;
-    ends(&rt, alloc, &[&head[..15]], 0, true)?;
-    ends(&rt, alloc, &[head, &PACKET[..41]], 0, true)?;
-    ends(&rt, alloc, &[longest, PACKET], 0, true)?;
-    ends(&rt, alloc, &[long], 0, true)?;
-    Ok(())
-}
-
-/// A file of eight bytes, what is not used, a link type word and one record shows this record.
+/// A file of these eight bytes, this link type word and this one record shows the record so.
 fn shows(
     rt: &impl Abort,
     alloc: Global,
     start: &[u8; 8],
     link: &[u8; 4],
-    head: &[u8; 16],
+    record: &[u8; 17],
     row: Row,
 ) -> Result<(), AllocError> {
-    let file = joined(alloc, &[start, &[0; 12], link, head])?;
+    let file = joined(alloc, &[start, UNUSED, link, record])?;
     assert!(rt; file.len() < 1000);
     let mut read = Records {
         rows: Vec::new(alloc),
         bytes: Vec::new(alloc),
     };
-    let end = read_file(alloc, file.as_slice(), 7, &mut read)?;
-    assert_eq!(rt;
-        end,
-        Ok(Tail {
-            records: 1,
-            cut: false
-        })
-    );
+    assert_eq!(rt; read_file(alloc, file.as_slice(), 7, &mut read)?, whole(1));
     assert_eq!(rt; read.rows.as_slice(), [row].as_slice());
+    assert_eq!(rt; read.bytes.as_slice(), &record[16..]);
     Ok(())
 }
 
 #[test]
 fn times_are_nanoseconds_in_every_format(rt: HostRuntime) -> Result<(), Fail> {
-    let alloc = rt.alloc();
-    let little_micros = b"\xD4\xC3\xB2\xA1\x02\x00\x04\x00";
-    let head = b"\x00\x00\x00\x00\xFF\xFF\xFF\xFF\0\0\0\0\x40\x00\x00\x00";
-    shows(
-        &rt,
-        alloc,
-        little_micros,
-        b"\x01\0\0\0",
-        head,
-        Row(0, 4_294_967_295_000, 1, 64, 0),
-    )?;
-    let little_nanos = b"\x4D\x3C\xB2\xA1\x02\x00\x04\x00";
-    let head = b"\x01\x00\x00\x00\x00\xCA\x9A\x3B\0\0\0\0\x00\x00\x00\x80";
-    shows(
-        &rt,
-        alloc,
-        little_nanos,
-        b"\x65\0\0\0",
-        head,
-        Row(0, 2_000_000_000, 101, 0x8000_0000, 0),
-    )?;
-    let big_micros = b"\xA1\xB2\xC3\xD4\x00\x02\x00\x04";
-    let head = b"\xFF\xFF\xFF\xFF\xFF\xFF\xFF\xFF\0\0\0\0\x00\x00\x00\x40";
-    shows(
-        &rt,
-        alloc,
-        big_micros,
-        b"\0\0\0\x65",
-        head,
-        Row(0, 4_294_971_589_967_295_000, 101, 64, 0),
-    )?;
-    let big_nanos = b"\xA1\xB2\x3C\x4D\x00\x02\x00\x04";
-    let head = b"\x00\x00\x00\x01\x00\x00\x00\x05\0\0\0\0\x00\x00\x00\x00";
-    shows(
-        &rt,
-        alloc,
-        big_nanos,
-        b"\0\0\0\x01",
-        head,
-        Row(0, 1_000_000_005, 1, 0, 0),
-    )?;
-    let head = b"\xFF\xFF\xFF\xFF\x00\x00\x00\x00\0\0\0\0\x00\x00\x00\x00";
-    shows(
-        &rt,
-        alloc,
-        big_nanos,
-        b"\0\0\0\x01",
-        head,
-        Row(0, 4_294_967_295_000_000_000, 1, 0, 0),
-    )?;
+    let records: [(&[u8; 8], &[u8; 4], &[u8; 17], Row); 5] = [
+        (
+            LITTLE_MICROS,
+            b"\x01\0\0\0",
+            b"\x00\x00\x00\x00\xFF\xFF\xFF\xFF\x01\0\0\0\x40\x00\x00\x00\x07",
+            Row(0, 4_294_967_295_000, 1, 64, 1),
+        ),
+        (
+            LITTLE_NANOS,
+            b"\x65\0\0\0",
+            b"\x01\x00\x00\x00\x00\xCA\x9A\x3B\x01\0\0\0\x00\x00\x00\x80\x07",
+            Row(0, 2_000_000_000, 101, 0x8000_0000, 1),
+        ),
+        (
+            BIG_MICROS,
+            b"\0\0\0\x65",
+            b"\xFF\xFF\xFF\xFF\xFF\xFF\xFF\xFF\0\0\0\x01\x00\x00\x00\x40\x07",
+            Row(0, 4_294_971_589_967_295_000, 101, 64, 1),
+        ),
+        (
+            BIG_NANOS,
+            b"\0\0\0\x01",
+            b"\x00\x00\x00\x01\x00\x00\x00\x05\0\0\0\x01\x00\x00\x00\x00\x07",
+            Row(0, 1_000_000_005, 1, 0, 1),
+        ),
+        (
+            BIG_NANOS,
+            b"\0\0\0\x01",
+            b"\xFF\xFF\xFF\xFF\x00\x00\x00\x00\0\0\0\x01\x00\x00\x00\x00\x07",
+            Row(0, 4_294_967_295_000_000_000, 1, 0, 1),
+        ),
+    ];
+    for (start, link, record, row) in records {
+        shows(&rt, rt.alloc(), start, link, record, row)?;
+    }
     Ok(())
 }
 
 #[test]
 fn bytes_that_were_given_are_dropped(rt: HostRuntime) -> Result<(), Fail> {
     let mut reader = PcapReader::new(rt.alloc());
-    assert_eq!(rt; reader.held(), 0);
     let Ok(()) = reader.feed(HEADER) else {
         return Err(AllocError)?;
     };
     assert_eq!(rt; reader.held(), 24);
     assert!(rt; matches!(reader.next(), Ok(None)));
-    assert_eq!(rt; reader.held(), 0);
-    let Ok(()) = reader.feed(&[0; 40]) else {
+    let Ok(()) = reader.feed(&[0; 24]) else {
         return Err(AllocError)?;
     };
     assert!(rt; matches!(reader.next(), Ok(Some(RecordRef { number: 0, .. }))));
-    assert!(rt; matches!(reader.next(), Ok(Some(RecordRef { number: 1, .. }))));
     assert!(rt; matches!(reader.next(), Ok(None)));
     assert_eq!(rt; reader.held(), 8);
     Ok(())
