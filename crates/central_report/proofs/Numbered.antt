@@ -7,9 +7,10 @@ use Rattle.ds_base.specs.Order.{Precedes}
 use Rattle.field_table.specs.declared.field_ref.FieldRef.{FieldRef}
 use Rattle.header_stack.specs.Layer.{Layer}
 use Rattle.header_stack.specs.Stack.{stack_of}
-use Rattle.key_select.specs.Fates.{Fate, Unmatched, Late, Accepted, fate_by, fate_of, fates_behind, summaries_of}
+use Rattle.key_select.specs.Fates.{Fate, Unmatched, Late, Accepted, fate_by, fate_of, fates_after, summaries_of}
 use Rattle.key_select.specs.Late.{comes_late}
 use Rattle.key_select.specs.Sum.{summary_with, passes, values_of, first_defined}
+use Rattle.key_select.specs.Times.{record_time}
 use Rattle.key_select.proofs.Tallying.{summaries_of-append}
 use Rattle.pcap_reader.specs.Captured.{Captured}
 use Rattle.pcap_reader.specs.Numbering.{NumberedFrom}
@@ -33,7 +34,7 @@ differs : (vars capture : ℕ) (s : Summary) (n : ℕ) (ss : List Summary) → s
 differs vars capture s n [] c less h = tt
 differs vars capture s n (x ∷ ss) c less h = (apart capture s.at x.at c h.1 (omega (arith, h.0)), differs vars capture s n ss c less h.3)
 
--- what is accepted of one record, and what is accepted behind it
+-- what is accepted of one record, and what is accepted after it
 abbrev Stand : (vars capture n : ℕ) → Option Summary → Bool → List Summary → Type 0
 Stand vars capture n o late ss =
     AreFrom vars capture n (summaries_of (fate_by o late ∷ []) ++ ss) × StampsDiffer (summaries_of (fate_by o late ∷ []) ++ ss)
@@ -56,12 +57,12 @@ abbrev AreSoMany : (vars : ℕ) → Option (List ℕ) → Type 0
 AreSoMany vars None = Unit {0}
 AreSoMany vars (Some vs) = length vs ≡ vars
 
-of_one : (job : Declared) (capture : ℕ) (r : Captured) (vars n : ℕ) (vals : Option (List ℕ)) (late : Bool) (ss : List Summary) → r.number ≡ n → AreSoMany vars vals
+of_one : (job : Declared) (capture time : ℕ) (r : Captured) (vars n : ℕ) (vals : Option (List ℕ)) (late : Bool) (ss : List Summary) → r.number ≡ n → AreSoMany vars vals
     → AreFrom vars capture (suc n) ss → StampsDiffer ss
-    → Stand vars capture n (option_and_then (λ vs. let s = summary_with job capture r vs in if passes job s then Some s else None) vals) late ss
-of_one job capture r vars n None late ss is many from differ = (fewer vars capture n (suc n) ss (omega arith) from, differ)
-of_one job capture r vars n (Some vs) late ss is many from differ =
-    of_wanted vars capture (summary_with job capture r vs) (passes job (summary_with job capture r vs)) n late ss refl many is from differ
+    → Stand vars capture n (option_and_then (λ vs. let s = summary_with job capture time r vs in if passes job s then Some s else None) vals) late ss
+of_one job capture time r vars n None late ss is many from differ = (fewer vars capture n (suc n) ss (omega arith) from, differ)
+of_one job capture time r vars n (Some vs) late ss is many from differ =
+    of_wanted vars capture (summary_with job capture time r vs) (passes job (summary_with job capture time r vs)) n late ss refl many is from differ
 
 one_more_value : (vars : ℕ) (first : Option ℕ) (others : Option (List ℕ)) → AreSoMany vars others
     → AreSoMany (suc vars) (option_and_then (λ n. option_map (λ ns. n ∷ ns) others) first)
@@ -77,15 +78,15 @@ many_values (alternatives ∷ takes) layers =
 
 -- the accepted summaries of records that are numbered from n on
 pub of_numbered : (job : Declared) (capture : ℕ) (earlier rs : List Captured) (n : ℕ) → NumberedFrom n rs
-    → AreFrom (length job.takes) capture n (summaries_of (fates_behind job capture earlier rs)) × StampsDiffer (summaries_of (fates_behind job capture earlier rs))
+    → AreFrom (length job.takes) capture n (summaries_of (fates_after job capture earlier rs)) × StampsDiffer (summaries_of (fates_after job capture earlier rs))
 of_numbered job capture earlier [] n h = (tt, tt)
 of_numbered job capture earlier (r ∷ rs) n h =
-    let later : List Fate = fates_behind job capture (earlier ++ r ∷ []) rs in
+    let later : List Fate = fates_after job capture (earlier ++ r ∷ []) rs in
     let rest = of_numbered job capture (earlier ++ r ∷ []) rs (suc n) h.1 in
     let layers : List Layer = stack_of r.link job.port r.bytes in
     let P : List Summary → Type 0 = λ ss. AreFrom (length job.takes) capture n ss × StampsDiffer ss in
     subst P (sym (summaries_of-append (fate_of job capture earlier r ∷ []) later))
-    (of_one job capture r (length job.takes) n (values_of job.takes layers) (comes_late job.skew earlier r) (summaries_of later) h.0 (many_values job.takes layers) rest.0 rest.1)
+    (of_one job capture (record_time job capture r) r (length job.takes) n (values_of job.takes layers) (comes_late job capture earlier r) (summaries_of later) h.0 (many_values job.takes layers) rest.0 rest.1)
 
 fates_few : (fates : List Fate) → length (summaries_of fates) ≤ length fates
 fates_few [] = omega arith
@@ -93,10 +94,10 @@ fates_few (Unmatched ∷ fates) = omega (arith, fates_few fates)
 fates_few (Late ∷ fates) = omega (arith, fates_few fates)
 fates_few (Accepted s ∷ fates) = omega (arith, fates_few fates)
 
-length-fates : (job : Declared) (capture : ℕ) (earlier rs : List Captured) → length (fates_behind job capture earlier rs) ≡ length rs
+length-fates : (job : Declared) (capture : ℕ) (earlier rs : List Captured) → length (fates_after job capture earlier rs) ≡ length rs
 length-fates job capture earlier [] = refl
 length-fates job capture earlier (r ∷ rs) = ap suc (length-fates job capture (earlier ++ r ∷ []) rs)
 
 -- no more summaries are accepted than there are records
-pub accepted_few : (job : Declared) (capture : ℕ) (earlier rs : List Captured) → length (summaries_of (fates_behind job capture earlier rs)) ≤ length rs
-accepted_few job capture earlier rs = omega (arith, fates_few (fates_behind job capture earlier rs), length-fates job capture earlier rs)
+pub accepted_few : (job : Declared) (capture : ℕ) (earlier rs : List Captured) → length (summaries_of (fates_after job capture earlier rs)) ≤ length rs
+accepted_few job capture earlier rs = omega (arith, fates_few (fates_after job capture earlier rs), length-fates job capture earlier rs)

@@ -1,4 +1,4 @@
-pub mod Places
 pub mod Hashing
 pub mod Jobs
 pub mod Tallying
+pub mod Marks

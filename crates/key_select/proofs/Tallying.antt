@@ -1,3 +1,4 @@
+-- A tally that takes up one record more.
 use Rattle.std.proofs.Common.{ℕ, List, [], ◌∷◌, ◌++◌, ◌+◌, ◌≡◌, Bool, Option, Some, max, fold, map, length, refl, sym, ap, ◌∙◌, append_assoc, arith, length-append, cond}
 use Rattle.std.specs.Prelude.{count_by}
 use Rattle.std.proofs.lemmas.List.{append-nil}
@@ -7,18 +8,26 @@ use Rattle.pcap_reader.specs.Captured.{Captured}
 use Rattle.query_lang.specs.Groups.{greatest}
 use Rattle.summary_spec.specs.Declaration.{Declared}
 use Rattle.key_select.specs.declared.tally.Tally.{Tally}
-use Rattle.key_select.specs.Sum.{sum_of}
-use Rattle.key_select.specs.Late.{greatest_time, is_behind}
-use Rattle.key_select.specs.Fates.{Fate, Unmatched, Late, Accepted, fate_by, fate_of, fates_behind, fates_of, is_unmatched, is_too_late, summaries_of, accepted_of, accepted_behind}
+use Rattle.key_select.specs.Sum.{sum_at}
+use Rattle.key_select.specs.Times.{record_time}
+use Rattle.key_select.specs.Late.{greatest_time, is_late}
+use Rattle.key_select.specs.Fates.{Fate, Unmatched, Late, Accepted, fate_by, fate_of, fates_after, fates_of, is_unmatched, is_too_late, summaries_of, accepted_of, accepted_after}
 use Rattle.key_select.specs.Tally.{Tallies, newest_after}
+
+-- ---- in two parts
+
+-- the fates of records and of further ones
+pub fates_after-append : (job : Declared) (capture : ℕ) (earlier rs later : List Captured)
+    → fates_after job capture earlier (rs ++ later) ≡ fates_after job capture earlier rs ++ fates_after job capture (earlier ++ rs) later
+fates_after-append job capture earlier [] later = ap (λ (xs : List Captured). fates_after job capture xs later) (sym (append-nil earlier))
+fates_after-append job capture earlier (q ∷ rs) later =
+    ap (λ fates. fate_of job capture earlier q ∷ fates) (fates_after-append job capture (earlier ++ q ∷ []) rs later
+    ∙ ap (λ (xs : List Captured). fates_after job capture (earlier ++ q ∷ []) rs ++ fates_after job capture xs later) (append_assoc earlier (q ∷ []) rs))
 
 -- the fates of some records and one more
 pub fates_behind-append : (job : Declared) (capture : ℕ) (earlier rs : List Captured) (r : Captured)
-    → fates_behind job capture earlier (rs ++ r ∷ []) ≡ fates_behind job capture earlier rs ++ fate_of job capture (earlier ++ rs) r ∷ []
-fates_behind-append job capture earlier [] r = ap (λ (xs : List Captured). fate_of job capture xs r ∷ []) (sym (append-nil earlier))
-fates_behind-append job capture earlier (q ∷ rs) r =
-    ap (λ fates. fate_of job capture earlier q ∷ fates) (fates_behind-append job capture (earlier ++ q ∷ []) rs r
-    ∙ ap (λ (xs : List Captured). fates_behind job capture (earlier ++ q ∷ []) rs ++ fate_of job capture xs r ∷ []) (append_assoc earlier (q ∷ []) rs))
+    → fates_after job capture earlier (rs ++ r ∷ []) ≡ fates_after job capture earlier rs ++ fate_of job capture (earlier ++ rs) r ∷ []
+fates_behind-append job capture earlier rs r = fates_after-append job capture earlier rs (r ∷ [])
 
 pub summaries_of-append : (xs ys : List Fate) → summaries_of (xs ++ ys) ≡ summaries_of xs ++ summaries_of ys
 summaries_of-append [] ys = refl
@@ -26,11 +35,13 @@ summaries_of-append (Unmatched ∷ xs) ys = summaries_of-append xs ys
 summaries_of-append (Late ∷ xs) ys = summaries_of-append xs ys
 summaries_of-append (Accepted s ∷ xs) ys = ap (λ zs. s ∷ zs) (summaries_of-append xs ys)
 
--- the accepted summaries of some records and one more
-pub accepted_of-append : (job : Declared) (capture : ℕ) (rs : List Captured) (r : Captured)
-    → accepted_of job capture (rs ++ r ∷ []) ≡ accepted_of job capture rs ++ accepted_behind job capture rs r
-accepted_of-append job capture rs r =
-    ap summaries_of (fates_behind-append job capture [] rs r) ∙ summaries_of-append (fates_of job capture rs) (fate_of job capture rs r ∷ [])
+-- what is accepted of two parts
+pub accepted_parts : (job : Declared) (capture : ℕ) (taken later : List Captured)
+    → accepted_of job capture (taken ++ later) ≡ accepted_of job capture taken ++ accepted_after job capture taken later
+accepted_parts job capture taken later =
+    ap summaries_of (fates_after-append job capture [] taken later) ∙ summaries_of-append (fates_of job capture taken) (fates_after job capture taken later)
+
+-- ---- the greatest time
 
 fold-max : (n t : ℕ) (ts : List ℕ) → fold max n (ts ++ t ∷ []) ≡ max (fold max n ts) t
 fold-max n t [] = refl
@@ -40,23 +51,27 @@ greatest-append : (ts : List ℕ) (t : ℕ) → greatest (ts ++ t ∷ []) ≡ ne
 greatest-append [] t = refl
 greatest-append (u ∷ ts) t = ap Some (fold-max u t ts)
 
-times-append : (rs : List Captured) (r : Captured) → map (λ q. q.time) (rs ++ r ∷ []) ≡ map (λ q. q.time) rs ++ r.time ∷ []
-times-append [] r = refl
-times-append (q ∷ rs) r = ap (λ ts. q.time ∷ ts) (times-append rs r)
+times-append : (job : Declared) (capture : ℕ) (rs : List Captured) (r : Captured)
+    → map (record_time job capture) (rs ++ r ∷ []) ≡ map (record_time job capture) rs ++ record_time job capture r ∷ []
+times-append job capture [] r = refl
+times-append job capture (q ∷ rs) r = ap (λ ts. record_time job capture q ∷ ts) (times-append job capture rs r)
 
-greatest_time-append : (rs : List Captured) (r : Captured) → greatest_time (rs ++ r ∷ []) ≡ newest_after r.time (greatest_time rs)
-greatest_time-append rs r = ap greatest (times-append rs r) ∙ greatest-append (map (λ q. q.time) rs) r.time
+pub greatest_time-append : (job : Declared) (capture : ℕ) (rs : List Captured) (r : Captured)
+    → greatest_time job capture (rs ++ r ∷ []) ≡ newest_after (record_time job capture r) (greatest_time job capture rs)
+greatest_time-append job capture rs r = ap greatest (times-append job capture rs r) ∙ greatest-append (map (record_time job capture) rs) (record_time job capture r)
+
+-- ---- one record more
 
 count-append : (p : Fate → Bool) (fates : List Fate) (fate : Fate) → count_by p (fates ++ fate ∷ []) ≡ count_by p fates + count_by p (fate ∷ [])
 count-append p fates fate = sum_by-append (λ x. cond (p x) 1 0) fates (fate ∷ [])
 
--- what becomes of a record, by its summary and by the newest time of the tally of those before it
-pub fate_here : (job : Declared) (capture : ℕ) (tally : Tally) (taken : List Captured) (r : Captured) (o : Option Summary) (late : Bool)
-    → Tallies job capture tally taken → sum_of job tally.capture r ≡ o → is_behind r.time job.skew tally.newest ≡ late
+-- what becomes of a record with this time, by its summary and by the newest time of the tally of those before it
+pub fate_here : (job : Declared) (capture : ℕ) (tally : Tally) (taken : List Captured) (r : Captured) (time : ℕ) (o : Option Summary) (late : Bool)
+    → Tallies job capture tally taken → time ≡ record_time job capture r → sum_at job tally.capture time r ≡ o → is_late time job.skew tally.newest ≡ late
     → fate_by o late ≡ fate_of job capture taken r
-fate_here job capture tally taken r o late h summed behind =
-    let same : fate_by (sum_of job tally.capture r) (is_behind r.time job.skew tally.newest) ≡ fate_of job capture taken r = rw (h.capture_is, h.newest) refl in
-    sym (ap (λ o. fate_by o (is_behind r.time job.skew tally.newest)) summed ∙ ap (fate_by o) behind) ∙ same
+fate_here job capture tally taken r time o late h e summed behind =
+    let same : fate_by (sum_at job tally.capture time r) (is_late time job.skew tally.newest) ≡ fate_of job capture taken r = rw (h.capture_is, h.newest, e) refl in
+    sym (ap (λ o. fate_by o (is_late time job.skew tally.newest)) summed ∙ ap (fate_by o) behind) ∙ same
 
 -- a record of this fate and time was counted
 pub record CountsOne (fate : Fate) (time : ℕ) (old new : Tally) : Type 0 where
@@ -68,11 +83,12 @@ pub record CountsOne (fate : Fate) (time : ℕ) (old new : Tally) : Type 0 where
   pub newest : new.newest ≡ newest_after time old.newest
 
 -- a tally of some records that counts one more is that of all of them
-pub tallies_more : (job : Declared) (capture : ℕ) (old new : Tally) (taken : List Captured) (r : Captured) (fate : Fate)
-    → Tallies job capture old taken → fate ≡ fate_of job capture taken r → CountsOne fate r.time old new → Tallies job capture new (taken ++ r ∷ [])
-tallies_more job capture old new taken r fate h is k =
+pub tallies_more : (job : Declared) (capture : ℕ) (old new : Tally) (taken : List Captured) (r : Captured) (time : ℕ) (fate : Fate)
+    → Tallies job capture old taken → time ≡ record_time job capture r → fate ≡ fate_of job capture taken r → CountsOne fate time old new
+    → Tallies job capture new (taken ++ r ∷ [])
+tallies_more job capture old new taken r time fate h e is k =
     let fates : fates_of job capture (taken ++ r ∷ []) ≡ fates_of job capture taken ++ fate ∷ [] =
-    fates_behind-append job capture [] taken r ∙ ap (λ f. fates_of job capture taken ++ f ∷ []) (sym is) in
+    fates_after-append job capture [] taken (r ∷ []) ∙ ap (λ f. fates_of job capture taken ++ f ∷ []) (sym is) in
     let unmatched = ap (count_by is_unmatched) fates ∙ count-append is_unmatched (fates_of job capture taken) fate in
     let late = ap (count_by is_too_late) fates ∙ count-append is_too_late (fates_of job capture taken) fate in
     let summaries = ap summaries_of fates ∙ summaries_of-append (fates_of job capture taken) (fate ∷ []) in
@@ -84,5 +100,5 @@ tallies_more job capture old new taken r fate h is k =
       accepted =
           k.accepted ∙ ap (λ n. n + length (summaries_of (fate ∷ []))) h.accepted
           ∙ sym (ap length summaries ∙ length-append (accepted_of job capture taken) (summaries_of (fate ∷ [])));
-      newest = k.newest ∙ ap (newest_after r.time) h.newest ∙ sym (greatest_time-append taken r);
+      newest = k.newest ∙ ap (newest_after time) h.newest ∙ ap (λ t. newest_after t (greatest_time job capture taken)) e ∙ sym (greatest_time-append job capture taken r);
     }

@@ -19,19 +19,19 @@ fate_by None late = Unmatched
 fate_by (Some s) true = Late
 fate_by (Some s) false = Accepted s
 
--- what becomes of a record of the capture that comes behind these
+-- what becomes of a record of the capture that comes after these
 abbrev pub fate_of : Declared → (capture : ℕ) → (earlier : List Captured) → Captured → Fate
-fate_of job capture earlier r = fate_by (sum_of job capture r) (comes_late job.skew earlier r)
+fate_of job capture earlier r = fate_by (sum_of job capture r) (comes_late job capture earlier r)
 
--- what becomes of records that come behind these
-abbrev pub fates_behind : Declared → (capture : ℕ) → (earlier rs : List Captured) → List Fate
-fates_behind job capture earlier [] = []
-fates_behind job capture earlier (r ∷ rs) =
-    fate_of job capture earlier r ∷ fates_behind job capture (earlier ++ r ∷ []) rs
+-- what becomes of records that come after these
+abbrev pub fates_after : Declared → (capture : ℕ) → (earlier rs : List Captured) → List Fate
+fates_after job capture earlier [] = []
+fates_after job capture earlier (r ∷ rs) =
+    fate_of job capture earlier r ∷ fates_after job capture (earlier ++ r ∷ []) rs
 
 -- what becomes of all records of a capture
 abbrev pub fates_of : Declared → (capture : ℕ) → List Captured → List Fate
-fates_of job capture rs = fates_behind job capture [] rs
+fates_of job capture rs = fates_after job capture [] rs
 
 abbrev pub is_unmatched : Fate → Bool
 is_unmatched Unmatched = true
@@ -50,13 +50,17 @@ summaries_of (Unmatched ∷ fates) = summaries_of fates
 summaries_of (Late ∷ fates) = summaries_of fates
 summaries_of (Accepted s ∷ fates) = s ∷ summaries_of fates
 
+-- the accepted summaries of records that come after these, in their order
+abbrev pub accepted_after : Declared → (capture : ℕ) → (earlier rs : List Captured) → List Summary
+accepted_after job capture earlier rs = summaries_of (fates_after job capture earlier rs)
+
 -- the accepted summaries of the records of a capture, in their order
 abbrev pub accepted_of : Declared → (capture : ℕ) → List Captured → List Summary
-accepted_of job capture rs = summaries_of (fates_of job capture rs)
+accepted_of job capture rs = accepted_after job capture [] rs
 
--- the summary of a record of the capture that comes behind these, where it is accepted
+-- the same of one record
 abbrev pub accepted_behind : Declared → (capture : ℕ) → (earlier : List Captured) → Captured → List Summary
-accepted_behind job capture earlier r = summaries_of (fate_of job capture earlier r ∷ [])
+accepted_behind job capture earlier r = accepted_after job capture earlier (r ∷ [])
 
 -- how the records of a capture fared
 abbrev pub counts_of : Declared → (capture : ℕ) → List Captured → (cut : Bool) → Counts

@@ -1,4 +1,6 @@
+pub mod Times
 pub mod Sum
 pub mod Late
 pub mod Fates
 pub mod Tally
+pub mod Laws

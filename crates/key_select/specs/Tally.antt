@@ -10,6 +10,10 @@ use Rattle.key_select.specs.Fates.{fates_of, accepted_of, is_unmatched, is_too_l
 abbrev pub capture_of : Tally → ℕ
 capture_of tally = tally.capture
 
+-- the greatest time of the records that it took up, if there is one
+abbrev pub newest_of : Tally → Option ℕ
+newest_of tally = tally.newest
+
 -- how many records it took up
 abbrev pub records_taken : Tally → ℕ
 records_taken tally = tally.records
@@ -21,9 +25,9 @@ pub record Tallies (job : Declared) (capture : ℕ) (tally : Tally) (taken : Lis
   pub unmatched : tally.unmatched ≡ count_by is_unmatched (fates_of job capture taken)
   pub late : tally.late ≡ count_by is_too_late (fates_of job capture taken)
   pub accepted : tally.accepted ≡ length (accepted_of job capture taken)
-  pub newest : tally.newest ≡ greatest_time taken
+  pub newest : tally.newest ≡ greatest_time job capture taken
 
--- the greatest time behind one record more
+-- the greatest time after one record more
 abbrev pub newest_after : (time : ℕ) → Option ℕ → Option ℕ
 newest_after time None = Some time
 newest_after time (Some newest) = Some (max newest time)

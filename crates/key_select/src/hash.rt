@@ -1,3 +1,4 @@
+//! The number of the shard that a key belongs to.
 ghost use Rattle.std.specs.Prelude.{◌≡◌, ◌<◌, ◌^◌};
 ghost use Rattle.std.specs.List.{fold};
 ghost use Rattle.std.specs.Int.{bytes_high_first};
@@ -25,7 +26,7 @@ pub fn shard(key: &Nums, n: u32) -> u32
     (hash % u64::from(n)) as u32
 }
 
-// The hash of the bytes that have the hash `from` and of the number behind them.
+/// The hash of the bytes that have the hash `from` and of the number after them.
 fn with_number(from: u64, number: u128) -> u64
     ensures { result ≡ fold fnv_step from (bytes_high_first 16 number) }
 {

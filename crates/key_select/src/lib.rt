@@ -7,14 +7,17 @@
 mod hash;
 mod late;
 mod summary;
+mod time;
 mod values;
 
 // The records of one capture.
+mod laws;
 mod tally;
 #[cfg(test)]
 mod tests;
 
 pub use hash::shard;
 pub use late::is_late;
+pub use laws::{accepted_in_parts, later_from_mark};
 pub use summary::select;
 pub use tally::Tally;

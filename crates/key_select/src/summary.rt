@@ -1,9 +1,11 @@
+//! From a record to its summary.
 ghost use Rattle.std.specs.Prelude.{◌≡◌, ◌≤◌, ◌<◌, ◌^◌, length};
 ghost use Rattle.pcap_reader.specs.Lent.{captured};
 ghost use Rattle.query_lang.specs.Expression.{expression_of, VariablesBelow};
 ghost use Rattle.summary_spec.specs.Job.{declared_of};
-ghost use Rattle.key_select.specs.Sum.{sum_of, passes};
+ghost use Rattle.key_select.specs.Sum.{sum_of, sum_at, passes};
 
+use crate::time::record_time;
 use crate::values::{put_key, put_values};
 use ds_base::{Nums, Stamp, Summary};
 use header_stack::walk;
@@ -20,10 +22,20 @@ pub fn select(job: &Job, capture: u32, r: &RecordRef<'_>) -> Option<Summary>
     requires bytes { length r.now.bytes.now ≤ 262144 }
     ensures { result ≡ sum_of (declared_of job.now) capture (captured r.now) }
 {
+    select_at(job, capture, record_time(r), r)
+}
+
+/// The same, where the time of the record was taken already.
+pub(crate) fn select_at(job: &Job, capture: u32, time: u64, r: &RecordRef<'_>) -> Option<Summary>
+    requires capture { capture < length job.now.names.captures.items }
+    requires time { time < 2 ^ 63 }
+    requires bytes { length r.now.bytes.now ≤ 262144 }
+    ensures { result ≡ sum_at (declared_of job.now) capture time (captured r.now) }
+{
     let stack = walk(r.link, r.bytes, job.port);
     let mut summary = Summary {
         at: Stamp {
-            time: r.time,
+            time,
             capture,
             number: r.number,
         },
@@ -41,7 +53,7 @@ pub fn select(job: &Job, capture: u32, r: &RecordRef<'_>) -> Option<Summary>
     }
 }
 
-// Whether the filter is defined and other than 0.
+/// Whether the filter is defined and other than 0.
 fn is_wanted(job: &Job, summary: &Summary) -> bool
     requires { VariablesBelow (length summary.now.vals) (expression_of job.now.filter) }
     ensures { result ≡ passes (declared_of job.now) summary.now }

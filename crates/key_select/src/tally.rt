@@ -1,38 +1,40 @@
-ghost use Rattle.std.specs.Prelude.{◌≡◌, ◌≤◌, ◌<◌, ◌+◌, ◌∷◌, ◌++◌, [], ◌^◌, ℕ, List, Some, length, max, OnOk, OnErr, IfSome};
+//! How the records of one capture fare: none, late or accepted.
+ghost use Rattle.std.specs.Prelude.{◌≡◌, ◌≤◌, ◌<◌, ◌+◌, ◌∷◌, ◌++◌, [], ◌^◌, ℕ, List, Some, length, max, option_to_list, IfSome, OnOk, OnErr};
 ghost use Rattle.std.proofs.Props.{props};
 ghost use Rattle.pcap_reader.specs.Captured.{Captured};
 ghost use Rattle.pcap_reader.specs.Lent.{captured, IsLawful};
 ghost use Rattle.summary_spec.specs.Declaration.{Declared};
 ghost use Rattle.summary_spec.specs.Job.{declared_of};
-ghost use Rattle.key_select.specs.Fates.{accepted_behind, counts_of};
+ghost use Rattle.key_select.specs.Fates.{accepted_after, accepted_behind, counts_of};
 
 use crate::late::is_late;
-use crate::summary::select;
-use ds_base::{Counts, OutOfMemory, SummaryList};
+use crate::summary::{select, select_at};
+use crate::time::record_time;
+use ds_base::{Counts, OutOfMemory, Summary, SummaryList};
 use pcap_reader::RecordRef;
 use summary_spec::Job;
 
 /// How the records of one capture fared so far. They are taken up in their order.
 #[derive(Debug, Drop)]
 pub struct Tally {
-    // the capture's number in the job
+    /// The capture's number in the job.
     capture: u32,
-    // how many records there were
+    /// How many records there were.
     records: u64,
-    // how many of them give no summary
+    /// How many of them give no summary.
     unmatched: u64,
-    // how many others came too late
+    /// How many others came too late.
     late: u64,
-    // how many others there were, whose summaries are accepted
+    /// How many others there were, whose summaries are accepted.
     accepted: u64,
-    // the greatest time of a record, in nanoseconds
+    /// The greatest time of a record, in nanoseconds since 1970.
     newest: Option<u64>,
     ghost few: { unmatched + late + accepted ≤ records },
     ghost early: { IfSome newest (λ n. n < 2 ^ 63) } by { Prim.hlevel props },
 }
 
 impl Tally {
-    ghost use Rattle.key_select.specs.Tally.{Tallies, capture_of, records_taken, Passes};
+    ghost use Rattle.key_select.specs.Tally.{Tallies, capture_of, newest_of, records_taken, Passes};
 
     /// No record of the capture with this number.
     pub fn new(capture: u32) -> Self
@@ -50,8 +52,36 @@ impl Tally {
         }
     }
 
-    /// Takes the next record up. An accepted summary goes to the end of `accepted`; where that wants
-    /// memory and there is none, all stays as it was.
+    /// Takes the next record up, and gives its summary where that is accepted. It takes no memory.
+    pub fn take_up(&mut self, job: &Job, r: &RecordRef<'_>) -> Option<Summary>
+        requires capture { capture_of self.old < length job.now.names.captures.items }
+        requires lawful { IsLawful (captured r.now) }
+        requires few { records_taken self.old < 2 ^ 63 }
+        ensures tallies { (capture : ℕ) (taken : List Captured) →
+            Tallies (declared_of job.now) capture self.old taken → Tallies (declared_of job.now) capture self.new (taken ++ captured r.now ∷ []) }
+        ensures accepted { (capture : ℕ) (taken : List Captured) → Tallies (declared_of job.now) capture self.old taken →
+            option_to_list result ≡ accepted_after (declared_of job.now) capture taken (captured r.now ∷ []) }
+        ensures capture { capture_of self.new ≡ capture_of self.old }
+        ensures records { records_taken self.new ≡ records_taken self.old + 1 }
+    {
+        let time = record_time(r);
+        let late = is_late(time, job.skew, self.newest);
+        let found = select_at(job, self.capture, time, r);
+        self.pass(time);
+        let Some(summary) = found else {
+            self.unmatched += 1;
+            return None;
+        };
+        if late {
+            self.late += 1;
+            return None;
+        }
+        self.accepted += 1;
+        Some(summary)
+    }
+
+    /// Takes the next record up, and puts its summary at the end of `accepted` where that is accepted.
+    /// Where that wants memory and there is none, all stays as it was. `take_up` wants none.
     pub fn take(
         &mut self,
         job: &Job,
@@ -75,13 +105,13 @@ impl Tally {
         match select(job, self.capture, r) {
             None => {
                 self.pass(r.time);
-                self.unmatched += 1;
+                self.unmatched = self.unmatched + 1;
                 Ok(())
             }
             Some(summary) => {
                 if is_late(r.time, job.skew, self.newest) {
                     self.pass(r.time);
-                    self.late += 1;
+                    self.late = self.late + 1;
                     return Ok(());
                 }
                 let Ok(()) = accepted.push(summary) else {
@@ -92,6 +122,13 @@ impl Tally {
                 Ok(())
             }
         }
+    }
+
+    /// The greatest time of the records that were taken up, in nanoseconds since 1970. None: there was none.
+    pub fn newest(&self) -> Option<u64>
+        ensures { result ≡ newest_of self.now }
+    {
+        self.newest
     }
 
     /// How the records fared; `cut` says whether the file ends inside a record.
@@ -107,7 +144,7 @@ impl Tally {
         }
     }
 
-    // Counts a record of this time, whatever becomes of it.
+    /// Counts a record of this time, whatever becomes of it.
     fn pass(&mut self, time: u64)
         requires early { time < 2 ^ 63 }
         requires few { records_taken self.old < 2 ^ 63 }

@@ -1,3 +1,4 @@
+//! The values of the variables, and the key.
 ghost use Rattle.std.specs.Prelude.{◌≡◌, ◌≤◌, ◌<◌, ◌+◌, ◌++◌, ◌∷◌, [], length, drop, if◌then◌else◌, Some, None, true};
 ghost use Rattle.std.specs.List.{All};
 ghost use Rattle.header_stack.specs.Places.{LiesIn, layers_at};
@@ -10,7 +11,7 @@ use field_table::FieldRef;
 use header_stack::{Stack, field_value};
 use summary_spec::{FieldList, TakeList};
 
-// Puts the value of each variable into `vals`, which is empty. False exactly where a variable has none.
+/// Puts the value of each variable into `vals`, which is empty. False exactly where a variable has none.
 pub(crate) fn put_values(vals: &mut Nums, takes: &TakeList, stack: &Stack, bytes: &[u8]) -> bool
     requires few { length takes.now.items ≤ 16 }
     requires none { vals.old ≡ [] }
@@ -27,7 +28,7 @@ pub(crate) fn put_values(vals: &mut Nums, takes: &TakeList, stack: &Stack, bytes
     true
 }
 
-// Puts the values of the key's variables into `key`, which is empty.
+/// Puts the values of the key's variables into `key`, which is empty.
 pub(crate) fn put_key(key: &mut Nums, variables: &KeyList, vals: &Nums)
     requires few { length variables.now.items ≤ 16 }
     requires none { key.old ≡ [] }
@@ -39,7 +40,7 @@ pub(crate) fn put_key(key: &mut Nums, variables: &KeyList, vals: &Nums)
     }
 }
 
-// The value of the first of these fields that the packet has.
+/// The value of the first of these fields that the packet has.
 fn first_defined(fields: &FieldList, stack: &Stack, bytes: &[u8]) -> Option<u128>
     requires { All (LiesIn bytes.now) stack.now }
     ensures { result ≡ first_defined fields.now.items (layers_at bytes.now stack.now) }
@@ -52,8 +53,8 @@ fn first_defined(fields: &FieldList, stack: &Stack, bytes: &[u8]) -> Option<u128
     None
 }
 
-// The alternatives of variable `i`.
-#[tactic(auto, using(crate::proofs::Places::drop_at))]
+/// The alternatives of variable `i`.
+#[tactic(auto, using(ds_base::proofs::Places::drop_at))]
 fn alternatives(takes: &TakeList, i: u64) -> &FieldList
     requires { i < length takes.now.items }
     ensures { drop i takes.now.items ≡ result.now ∷ drop (i + 1) takes.now.items }
@@ -61,8 +62,8 @@ fn alternatives(takes: &TakeList, i: u64) -> &FieldList
     takes.get(i)
 }
 
-// Field `i` of these.
-#[tactic(auto, using(crate::proofs::Places::drop_at))]
+/// Field `i` of these.
+#[tactic(auto, using(ds_base::proofs::Places::drop_at))]
 fn alternative(fields: &FieldList, i: u64) -> &FieldRef
     requires { i < length fields.now.items }
     ensures { drop i fields.now.items ≡ result.now ∷ drop (i + 1) fields.now.items }
@@ -70,7 +71,7 @@ fn alternative(fields: &FieldList, i: u64) -> &FieldRef
     fields.get(i)
 }
 
-// The value of variable `i` of the key.
+/// The value of variable `i` of the key.
 fn key_value(variables: &KeyList, i: u64, vals: &Nums) -> u128
     requires within { i < length variables.now.items }
     requires known { All (λ v. v < length vals.now) variables.now.items }

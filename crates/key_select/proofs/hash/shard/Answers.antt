@@ -1,6 +1,6 @@
 use Rattle.std.proofs.Common.{◌∙◌}
 use Rattle.key_select.proofs.Hashing.{hash_next}
-use Rattle.key_select.proofs.Places.{drop_at}
+use Rattle.ds_base.proofs.Places.{drop_at}
 use Rattle.key_select.proofs.hash.shard.Goals as goal
 
 pub loop-i-preserved : goal.loop-i-preserved

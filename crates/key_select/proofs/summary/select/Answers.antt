@@ -1,8 +1,8 @@
-use Rattle.key_select.proofs.Jobs.{known_key, known_filter}
+use Rattle.std.proofs.Common.{ap, ◌∙◌}
+use Rattle.pcap_reader.specs.Lent.{captured}
+use Rattle.summary_spec.specs.Job.{declared_of}
+use Rattle.key_select.specs.Sum.{sum_at}
 use Rattle.key_select.proofs.summary.select.Goals as goal
 
-pub put_key-requires-clause-known : goal.put_key-requires-clause-known
-put_key-requires-clause-known c = known_key c.args.job.now c.put_values.new.vals (c.put_values.ensures.filled c.if-not-put_values.false)
-
-pub is_wanted-requires : goal.is_wanted-requires
-is_wanted-requires c = known_filter c.args.job.now c.put_values.new.vals (c.put_values.ensures.filled c.if-not-put_values.false)
+pub returns : goal.returns
+returns c = c.select_at.ensures ∙ ap (λ time. sum_at (declared_of c.args.job.now) c.args.capture time (captured c.args.r.now)) c.record_time.ensures

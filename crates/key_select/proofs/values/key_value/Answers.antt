@@ -1,7 +1,7 @@
 use Rattle.std.proofs.Common.{◌<◌, ◌+◌, ◌∷◌, length, drop, ap, ◌∙◌}
 use Rattle.std.proofs.lemmas.Option.{get_or_from_slice_get}
 use Rattle.ds_base.specs.Keys.{key_of}
-use Rattle.key_select.proofs.Places.{drop_at, all_at}
+use Rattle.ds_base.proofs.Places.{drop_at, all_at}
 use Rattle.key_select.proofs.values.key_value.Goals as goal
 
 pub get-requires : goal.get-requires
