@@ -4,6 +4,7 @@ use Rattle.std.specs.List.{AllByRecursion}
 use Rattle.std.proofs.lemmas.List.Elements.{recursion_from_All}
 use Rattle.std.proofs.lemmas.List.Sums.{sum_by-cons}
 use Rattle.ds_base.specs.Copies.{Copies}
+use Rattle.ds_base.specs.Times.{hour}
 use Rattle.ds_base.specs.declared.profile_row.ProfileRow.{ProfileRow}
 use Rattle.ds_base.specs.declared.summary.Summary.{Summary}
 use Rattle.profiles.specs.Delays.{Delay, delays, delays_of, times_between}
@@ -14,7 +15,7 @@ use Rattle.profiles.proofs.Put.{put_by}
 use Rattle.profiles.proofs.Tells.{times-append}
 use Rattle.profiles.proofs.Windows.{few_in_group}
 use Rattle.summary_spec.specs.Declaration.{Declared}
-use Rattle.summary_spec.specs.Lawful.{IsLawful, longest}
+use Rattle.summary_spec.specs.Lawful.{IsLawful}
 use Rattle.window_grouper.specs.Groups.{members_in}
 use Rattle.central_report.specs.Answering.{IsAnswerable}
 use Rattle.central_report.specs.Laws.{IsSummaryOf}
@@ -29,9 +30,9 @@ all_append P (x ∷ xs) ys h k = (h.0, all_append P xs ys h.1 k)
 
 -- the delay is between two of so many captures, and no longer than an hour
 abbrev pub IsDelayOf : (captures : ℕ) → Delay → Type 0
-IsDelayOf captures d = (d.from < captures) × (d.to < captures) × (d.time ≤ longest)
+IsDelayOf captures d = (d.from < captures) × (d.to < captures) × (d.time ≤ hour)
 
-delays_among : (job : Declared) (members : List Summary) → AllByRecursion (IsSummaryOf job) members → AllByRecursion (λ (d : Delay). d.time ≤ longest) (delays members)
+delays_among : (job : Declared) (members : List Summary) → AllByRecursion (IsSummaryOf job) members → AllByRecursion (λ (d : Delay). d.time ≤ hour) (delays members)
     → AllByRecursion (IsDelayOf (length job.captures)) (delays members)
 delays_among job [] named short = tt
 delays_among job (a ∷ []) named short = tt
@@ -41,7 +42,7 @@ pub all_delays : (job : Declared) (gs : List Copies) → AllByRecursion (IsAnswe
 all_delays job [] h = tt
 all_delays job (g ∷ gs) h =
     all_append (IsDelayOf (length job.captures)) (delays g.members) (delays_of gs)
-    (delays_among job g.members (recursion_from_All (IsSummaryOf job) g.members h.0.of_job) (recursion_from_All (λ (d : Delay). d.time ≤ longest) (delays g.members) h.0.short))
+    (delays_among job g.members (recursion_from_All (IsSummaryOf job) g.members h.0.of_job) (recursion_from_All (λ (d : Delay). d.time ≤ hour) (delays g.members) h.0.short))
     (all_delays job gs h.1)
 
 all_lawful : (captures : ℕ) (ds : List Delay) → captures ≤ 64 → AllByRecursion (IsDelayOf captures) ds → AllByRecursion IsLawfulDelay ds

@@ -6,11 +6,12 @@ use Rattle.std.proofs.lemmas.List.Elements.{All-from_recursion, All-weaker, recu
 use Rattle.std.proofs.lemmas.List.Sums.{sum_by-cons}
 use Rattle.ds_base.specs.Copies.{Copies}
 use Rattle.ds_base.specs.Order.{InStampOrder}
+use Rattle.ds_base.specs.Times.{hour}
 use Rattle.ds_base.specs.declared.summary.Summary.{Summary}
 use Rattle.profiles.specs.Delays.{Delay, delays}
 use Rattle.profiles.proofs.Windows.{within_window}
 use Rattle.summary_spec.specs.Declaration.{Declared}
-use Rattle.summary_spec.specs.Lawful.{IsLawful, longest}
+use Rattle.summary_spec.specs.Lawful.{IsLawful}
 use Rattle.window_grouper.specs.Cut.{IsWithin}
 use Rattle.window_grouper.specs.Groups.{groups_of, IsGroup, members_in}
 use Rattle.window_grouper.proofs.Members.{all_grouped, behind_each}
@@ -18,11 +19,11 @@ use Rattle.central_report.specs.Answering.{IsAnswerable}
 use Rattle.central_report.specs.Laws.{IsSummaryOf}
 
 -- no delay is longer than the window
-short_delays : (window : ℕ) (members : List Summary) → window ≤ longest → InStampOrder members → IsWithin window members
-    → All (λ (d : Delay). d.time ≤ longest) (delays members)
+short_delays : (window : ℕ) (members : List Summary) → window ≤ hour → InStampOrder members → IsWithin window members
+    → All (λ (d : Delay). d.time ≤ hour) (delays members)
 short_delays window [] less ordered within = λ k d lt. absurd (omega arith)
 short_delays window (first ∷ others) less ordered within =
-    All-weaker (λ (d : Delay). d.time ≤ window) (λ (d : Delay). d.time ≤ longest) (λ d h. omega (arith, h, less)) (delays (first ∷ others))
+    All-weaker (λ (d : Delay). d.time ≤ window) (λ (d : Delay). d.time ≤ hour) (λ d h. omega (arith, h, less)) (delays (first ∷ others))
     (within_window window first others ordered within)
 
 one_answerable : (job : Declared) (g : Copies) → IsLawful job → IsGroup job.window g → AllByRecursion (IsSummaryOf job) g.members → IsAnswerable job g

@@ -1,10 +1,10 @@
 pub mod Numbered
 pub mod Accepted
+pub mod Membership
 pub mod Gathered
 pub mod Delaying
 pub mod Sorting
 pub mod Profiled
-pub mod Judging
 pub mod Lines
 pub mod Pieces
 pub mod Taking

@@ -58,12 +58,12 @@ pub taken_left : (names : List (Items ℕ)) (job : Declared) (groups : Open) (wr
 taken_left names job groups written front time h = record { in_turn = h.in_turn; given = h.given; groups = h.placed.groups; answered = h.answered }
 
 -- one group more, which was over at this time
-pub over_more : (names : List (Items ℕ)) (job : Declared) (old new : Open) (before after : Written) (front : List Summary) (at time : ℕ) (g : Copies)
+pub closed_more : (names : List (Items ℕ)) (job : Declared) (old new : Open) (before after : Written) (front : List Summary) (at time : ℕ) (g : Copies)
     → HasTaken names job old before front at
     → ((given : List Copies) → HasPlaced old job.window front given at → HasPlaced new job.window front (given ++ g ∷ []) time)
     → ((given : List Copies) → HasAnswered names job before given → HasAnswered names job after (given ++ g ∷ []))
     → HasTaken names job new after front time
-over_more names job old new before after front at time g h placed answered = record {
+closed_more names job old new before after front at time g h placed answered = record {
   in_turn = h.in_turn;
   given = h.given ++ g ∷ [];
   placed = placed h.given h.placed;

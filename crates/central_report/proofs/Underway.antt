@@ -19,7 +19,7 @@ use Rattle.central_report.specs.Progress.{AreInTurn, HasAnswered, HasLeft, HasTa
 use Rattle.central_report.specs.declared.written.Written.{Written}
 use Rattle.central_report.proofs.Taking.{taken_left}
 
--- `front` was taken up by this time, and the places are those of the summaries behind it
+-- `front` was taken up by this time, and the places are those of the summaries after it
 pub record IsUnderway (names : List (Items ℕ)) (job : Declared) (list : List Summary) (places : List ℕ) (groups : Open) (written : Written) : Type 0 where
   pub front : List Summary
   pub rest : List Summary

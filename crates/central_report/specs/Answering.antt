@@ -2,10 +2,10 @@
 use Rattle.std.specs.Prelude.{ℕ, ◌<◌, ◌≤◌, ◌+◌, ◌^◌, length, All}
 use Rattle.ds_base.specs.Copies.{Copies}
 use Rattle.ds_base.specs.Order.{InStampOrder}
+use Rattle.ds_base.specs.Times.{hour}
 use Rattle.profiles.specs.Delays.{delays, times_between}
 use Rattle.profiles.specs.Rows.{count_of}
 use Rattle.summary_spec.specs.Declaration.{Declared}
-use Rattle.summary_spec.specs.Lawful.{longest}
 use Rattle.central_report.specs.Laws.{IsSummaryOf}
 use Rattle.central_report.specs.declared.written.Written.{Written}
 
@@ -14,7 +14,7 @@ pub record IsAnswerable (job : Declared) (g : Copies) : Type 0 where
   pub some : 0 < length g.members
   pub ordered : InStampOrder g.members
   pub of_job : All (IsSummaryOf job) g.members
-  pub short : All (λ delay. delay.time ≤ longest) (delays g.members)
+  pub short : All (λ delay. delay.time ≤ hour) (delays g.members)
 
 -- the group can be answered, and counted beside what was counted so far
 pub record IsNext (job : Declared) (written : Written) (g : Copies) : Type 0 where

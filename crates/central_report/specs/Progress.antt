@@ -62,7 +62,7 @@ pub record HasTakenSome (names : List (Items ℕ)) (job : Declared) (groups : Op
   pub reached : before ≤ time
   pub taken : HasTaken names job groups written front before
 
--- the summary can be taken up behind those that were
+-- the summary can be taken up after those that were
 pub record IsNextOf (names : List (Items ℕ)) (job : Declared) (groups : Open) (written : Written) (s : Summary) : Type 0 where
   pub front : List Summary
   pub before : ℕ

@@ -20,7 +20,7 @@ use Rattle.window_grouper.specs.Sorted.{by_stamp}
 
 -- ---- what is reported
 
--- the accepted summaries of the captures from this number on, one capture's behind the other's
+-- the accepted summaries of the captures from this number on, one capture after another
 abbrev pub accepted_from : Declared → (capture : ℕ) → (files : List (List ℕ)) → List Summary
 accepted_from job capture [] = []
 accepted_from job capture (bytes ∷ files) =

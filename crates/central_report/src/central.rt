@@ -1,3 +1,4 @@
+//! The report of a list: each group is answered once its window is over.
 ghost use Rattle.std.specs.Prelude.{ℕ, ◌≡◌, ◌≤◌, ◌++◌, ◌∷◌, [], List, IfOk, OnOk, length};
 ghost use Rattle.ds_base.specs.declared.summary.Summary.{Summary};
 ghost use Rattle.summary_spec.specs.Job.{declared_of};
@@ -69,12 +70,12 @@ fn take_up(
         HasTaken job.now.names.captures.items (declared_of job.now) groups.old written.old front before →
         HasTaken job.now.names.captures.items (declared_of job.now) groups.new written.new (front ++ s.now ∷ []) s.now.at.time) }
 {
-    answer_over(job, s.at.time, groups, written)?;
+    answer_closed(job, s.at.time, groups, written)?;
     groups.place(s)
 }
 
 /// Answers the groups whose windows are over at this time.
-fn answer_over(
+fn answer_closed(
     job: &Job,
     time: u64,
     groups: &mut OpenGroups,
@@ -91,7 +92,7 @@ fn answer_over(
     Ok(())
 }
 
-/// Answers the groups that are left, behind the last summary.
+/// Answers the groups that are left, after the last summary.
 fn answer_rest(job: &Job, groups: &mut OpenGroups, written: &mut Written) -> Result<(), OutOfMemory>
     requires { (front : List Summary) × HasLeft job.now.names.captures.items (declared_of job.now) groups.old.held written.old front }
     ensures { OnOk result ((front : List Summary) →

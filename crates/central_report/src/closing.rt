@@ -1,3 +1,4 @@
+//! The end of a report: the delays, the captures and the last line.
 ghost use Rattle.std.specs.Prelude.{◌≡◌, ◌++◌, List, length, OnOk, IfOk};
 ghost use Rattle.ds_base.specs.Copies.{Copies};
 ghost use Rattle.summary_spec.specs.Job.{declared_of};

@@ -11,4 +11,4 @@ mod tests;
 mod written;
 
 pub use central::central_text;
-pub use laws::{accepted_reportable, rows_are_profile};
+pub use laws::{accepted_is_all, accepted_reportable, rows_are_profile};

@@ -45,7 +45,7 @@ fn seen(capture: u32, time: u64, number: u64, id: u128, ttl: u128) -> Summary
 }
 
 // The accepted summaries, capture by capture. Packet 7 came back to the first capture; packet 9 was
-// seen behind its beginning and before its end.
+// seen after its beginning and before its end.
 fn summaries(alloc: Global) -> Result<SummaryList, Fail>
     ensures differ { IfOk result (λ list. StampsDiffer list.items) }
     ensures known { IfOk result (λ list. All (λ s. (s.at.capture < 3) × (length s.vals ≡ 2)) list.items) }

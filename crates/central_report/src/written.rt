@@ -1,3 +1,4 @@
+//! What is written of a report while its groups are answered.
 ghost use Rattle.std.specs.Prelude.{ℕ, ◌≡◌, ◌<◌, ◌+◌, ◌^◌, ◌++◌, ◌∷◌, [], List, Some, length, slice_get, OnOk};
 ghost use Rattle.answer_text.specs.Lines.{IsNamedIn};
 ghost use Rattle.ds_base.specs.Copies.{Copies, copies_of};

@@ -1,7 +1,7 @@
 use Rattle.std.proofs.Common.{ap, sym, ◌∙◌, ℕ, refl, arith}
 use Rattle.answer_text.specs.Lines.{profile_text}
 use Rattle.ds_base.specs.Items.{Items}
-use Rattle.central_report.proofs.Pieces.{one_more_piece}
+use Rattle.ds_base.proofs.Places.{one_more_piece}
 use Rattle.central_report.proofs.closing.push_rows.Goals as goal
 use Rattle.central_report.proofs.closing.push_rows.Goals.{in-Some+in_ok-push_profile_line, in_default}
 

@@ -1,8 +1,8 @@
 use Rattle.std.proofs.Common.{arith}
 use Rattle.ds_base.specs.Copies.{copies_of}
 use Rattle.summary_spec.specs.Job.{declared_of}
-use Rattle.central_report.proofs.Taking.{next_of, over_more, taken_left}
-use Rattle.central_report.proofs.central.answer_over.Goals as goal
+use Rattle.central_report.proofs.Taking.{next_of, closed_more, taken_left}
+use Rattle.central_report.proofs.central.answer_closed.Goals as goal
 
 pub answer-requires : goal.answer-requires
 answer-requires c =
@@ -20,6 +20,6 @@ loop-group-preserved c = λ front before le h.
     let now = c.loop-group.invariant front before le h in (
       c.args.time,
       omega arith,
-      over_more names job c.loop-group.groups _ c.loop-group.written _ front now.0 c.args.time (copies_of c.in-Some.group) now.2
+      closed_more names job c.loop-group.groups _ c.loop-group.written _ front now.0 c.args.time (copies_of c.in-Some.group) now.2
           (λ given placed. c.in-Some.ensures.gives job.window front given now.0 placed now.1) c.in_ok-answer.ensures,
     )

@@ -2,7 +2,7 @@ use Rattle.std.proofs.Common.{◌≤◌, ℕ, List, length}
 use Rattle.ds_base.specs.declared.summary.Summary.{Summary}
 use Rattle.summary_spec.specs.Job.{declared_of}
 use Rattle.central_report.specs.Progress.{HasTaken}
-use Rattle.central_report.proofs.central.answer_over.Given as goal
+use Rattle.central_report.proofs.central.answer_closed.Given as goal
 
 -- what was taken up when the call began is still taken up
 abbrev pub invariant-loop-group : goal.invariant-loop-group
