@@ -1,6 +1,8 @@
+//! Wide numbers: below 2^128, as a number or as a text.
+
 ghost use Rattle.std.specs.Prelude.{◌≡◌, ◌&&◌, ◌<◌, ◌^◌, length, IfOk, slice_index};
 ghost use Rattle.std.specs.List.{list_all};
-ghost use Rattle.query_tokens.specs.Numbers.{is_digit, is_letter, is_number_byte, number_of};
+ghost use Rattle.query_tokens.specs.Numbers.{is_digit, is_number_byte};
 ghost use Rattle.serde_json.specs.View.{view};
 ghost use Rattle.job_values.specs.Said.{Answers};
 ghost use Rattle.job_values.specs.Wide.{is_number_run, number_text, number_in, only_number, wide};
@@ -8,7 +10,7 @@ ghost use Rattle.job_values.specs.Wide.{is_number_run, number_text, number_in, o
 use crate::fault::{JobWhat, ReadJobFault, fault_at};
 use crate::member::Member;
 use ds_base::OutOfMemory;
-use query_tokens::{Lexing, Token, tokens_of};
+use query_tokens::{Lexing, Token, is_digit, is_number_byte, tokens_of};
 use serde_json::Value;
 use std::alloc::Global;
 
@@ -60,24 +62,6 @@ fn is_all_number_bytes(bytes: &[u8]) -> bool
     ensures { result ≡ list_all is_number_byte bytes.now }
 {
     bytes.iter().all(|b| is_number_byte(*b))
-}
-
-fn is_digit(byte: u8) -> bool
-    ensures { result ≡ is_digit byte }
-{
-    byte >= b'0' && byte <= b'9'
-}
-
-fn is_letter(byte: u8) -> bool
-    ensures { result ≡ is_letter byte }
-{
-    (byte >= b'A' && byte <= b'Z') || (byte >= b'a' && byte <= b'z')
-}
-
-fn is_number_byte(byte: u8) -> bool
-    ensures { result ≡ is_number_byte byte }
-{
-    is_digit(byte) || is_letter(byte) || byte == b'.'
 }
 
 // The number that the only token is.

@@ -1,3 +1,4 @@
+-- The tokens of a text: what begins at a place, and how the places follow.
 use Rattle.std.specs.Prelude.{ℕ, ◌≡◌, ◌+◌, ◌<◌, ◌⊎◌, Bool, List, [], ◌∷◌, take, drop, length, Option, Some, None, ◌==◌, if◌then◌else◌, slice_index, option_map}
 use Rattle.std.specs.List.{prefix_len}
 use Rattle.query_tokens.specs.Numbers.{is_digit, is_number_byte, number_of}

@@ -1,3 +1,4 @@
+-- Numbers as tokens: their bytes, and the forms that are lawful.
 use Rattle.std.specs.Prelude.{ℕ, ◌+◌, ◌-◌, ◌*◌, ◌^◌, Bool, ◌&&◌, ◌||◌, List, length, drop, Option, Some, None, nat_lt, nat_le, ◌==◌, if◌then◌else◌, option_and_then, option_map, slice_index}
 use Rattle.std.specs.List.{list_all, before_first, after_first, position_or_len}
 use Rattle.std.specs.Option.{option_or}

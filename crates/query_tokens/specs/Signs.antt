@@ -1,3 +1,4 @@
+-- Signs of one byte and of two.
 use Rattle.std.specs.Prelude.{ℕ, ◌&&◌, List, Option, Some, None, ◌==◌, if◌then◌else◌, slice_index, option_map}
 use Rattle.std.specs.Option.{option_or}
 use Rattle.query_tokens.specs.declared.token.Token.{Token}

@@ -1,4 +1,5 @@
-use Rattle.std.specs.Prelude.{ℕ, Bool, ◌||◌, List, length, ◌==◌, if◌then◌else◌, bytes_eq, codes, Option, Some, None, option_map, unwrap_or}
+-- Words: their bytes, and which are reserved.
+use Rattle.std.specs.Prelude.{ℕ, Bool, ◌||◌, List, length, ◌==◌, if◌then◌else◌, bytes_eq, codes, Option, Some, None, option_map, is_some, unwrap_or}
 use Rattle.query_tokens.specs.Numbers.{is_digit, is_letter}
 use Rattle.query_tokens.specs.declared.token.Pick.{Pick}
 use Rattle.query_tokens.specs.declared.token.Token.{Token}
@@ -35,6 +36,10 @@ reserved at word =
     if bytes_eq word (codes "at") then Some (At at) else
     if bytes_eq word (codes "not") then Some (Not at) else
     option_map (λ p. Of p at) (pick word)
+
+-- a word that the expressions keep for themselves
+abbrev pub is_reserved : List ℕ → Bool
+is_reserved word = is_some (reserved 0 word)
 
 -- the token of a word: any that is not reserved is a name
 abbrev pub word_token : ℕ → List ℕ → Token

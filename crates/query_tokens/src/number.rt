@@ -1,24 +1,26 @@
+//! Numbers: decimal, hexadecimal, and four octets with dots.
+
 ghost use Rattle.std.specs.Prelude.{◌≡◌, ◌≤◌, ◌<◌, ◌^◌, ◌-◌, length, option_map, SomeIff, IsTrue, slice_index, ◌+◌, ◌*◌};
 ghost use Rattle.query_tokens.specs.Numbers.{is_digit, is_letter, is_number_byte, numeral, hexadecimal, octet, is_dot, octet_and_dot, dotted, number_of};
 ghost use Rattle.std.specs.Char.{digit_value};
 ghost use Rattle.std.specs.List.{position_or_len, prefix_len};
 
-/// `0-9`
-pub(crate) fn is_digit(byte: u8) -> bool
+/// Whether a byte is a digit: `0-9`.
+pub fn is_digit(byte: u8) -> bool
     ensures { result ≡ is_digit byte }
 {
     byte >= b'0' && byte <= b'9'
 }
 
-/// `A-Z a-z`
+/// Whether a byte is a letter: `A-Z a-z`.
 pub(crate) fn is_letter(byte: u8) -> bool
     ensures { result ≡ is_letter byte }
 {
     (byte >= b'A' && byte <= b'Z') || (byte >= b'a' && byte <= b'z')
 }
 
-/// What a token that begins with a digit goes on over.
-pub(crate) fn is_number_byte(byte: u8) -> bool
+/// Whether a token that begins with a digit goes on over this byte: digits, letters and `.`.
+pub fn is_number_byte(byte: u8) -> bool
     ensures { result ≡ is_number_byte byte }
 {
     is_digit(byte) || is_letter(byte) || byte == b'.'

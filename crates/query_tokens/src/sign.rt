@@ -1,3 +1,5 @@
+//! Signs of one byte and of two.
+
 ghost use Rattle.std.specs.Prelude.{◌≡◌, ◌<◌, ◌≤◌, length, slice_index, OnSome, IfSome};
 ghost use Rattle.query_tokens.specs.Signs.{double_sign, single_sign, sign};
 

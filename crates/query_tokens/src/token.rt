@@ -1,3 +1,5 @@
+//! What a token is.
+
 /// An operator between two operands.
 #[derive(Clone, Copy, Debug, PartialEq, Eq)]
 pub enum Operator {

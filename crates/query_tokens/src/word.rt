@@ -1,19 +1,21 @@
+//! Words: what they are made of, and which are reserved.
+
 ghost use Rattle.std.specs.Prelude.{◌≡◌, ◌<◌, ◌≤◌, ◌^◌, length, bytes_eq, IsTrue, slice_index};
 ghost use Rattle.std.specs.List.{prefix_len};
-ghost use Rattle.query_tokens.specs.Words.{begins_word, is_word_byte, pick, reserved, word_token};
+ghost use Rattle.query_tokens.specs.Words.{begins_word, is_word_byte, is_reserved, pick, reserved, word_token};
 
 use crate::number::{is_digit, is_letter};
 use crate::token::{Measure, Part, Pick, Token, Word};
 
-/// What a word begins with.
-pub(crate) fn begins_word(byte: u8) -> bool
+/// Whether a word begins with this byte: a letter or `_`.
+pub fn begins_word(byte: u8) -> bool
     ensures { result ≡ begins_word byte }
 {
     is_letter(byte) || byte == b'_'
 }
 
-/// What a word goes on over.
-pub(crate) fn is_word_byte(byte: u8) -> bool
+/// Whether a word goes on over this byte: letters, digits and `_`.
+pub fn is_word_byte(byte: u8) -> bool
     ensures { result ≡ is_word_byte byte }
 {
     begins_word(byte) || is_digit(byte)
@@ -59,6 +61,16 @@ fn reserved(word: &[u8], at: u32) -> Option<Token>
         Some(Token::Not(at))
     } else {
         Some(Token::Of(pick(word)?, at))
+    }
+}
+
+/// Whether the expressions keep a word for themselves.
+pub fn is_reserved(word: &[u8]) -> bool
+    ensures { result ≡ is_reserved word.now }
+{
+    match reserved(word, 0) {
+        Some(_) => true,
+        None => false,
     }
 }
 
