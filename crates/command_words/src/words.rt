@@ -1,3 +1,5 @@
+//! The words of the command line, read.
+
 ghost use Rattle.std.specs.Prelude.{◌≡◌, ◌∷◌, ◌++◌, ◌+◌, ◌<◌, ◌^◌, ℕ, List, IfSome, IfOk, IfErr, length, map, string_bytes};
 ghost use Rattle.command_words.specs.CommandTable.{command_word, options_of};
 ghost use Rattle.command_words.specs.Words.{Asked, Accepts, IsPlace};
@@ -7,9 +9,11 @@ ghost use Rattle.command_words.specs.Reading.{Stands, left_of};
 use crate::command::{Command, command_read};
 use crate::reading::{Read, nothing_read, step};
 use crate::table::{Name, command_named};
+use thiserror::Error;
 
 /// Words that are refused.
-#[derive(Clone, Copy, Debug, PartialEq, Eq)]
+#[derive(Clone, Copy, Debug, PartialEq, Eq, Error)]
+#[error("word {place} may not stand there")]
 pub struct Misplaced {
     /// The number, from 0, of the first word such that no accepted command line begins with the
     /// words up to it and with it; or the number of the words where all of them begin one.
