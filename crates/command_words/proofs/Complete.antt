@@ -1,11 +1,12 @@
 -- Every list of words that the reader has not refused begins an accepted list.
 use Rattle.std.proofs.Common.{ℕ, zero, suc, List, [], ◌∷◌, ◌++◌, ◌≡◌, ◌<◌, ◌≤◌, ◌+◌, false, Option, Some, None, length, take, drop, refl, sym, ap, ◌∙◌, subst, append_assoc, arith, rules}
 use Rattle.std.proofs.lemmas.List.{append-nil, take-append-drop}
+use Rattle.ds_base.specs.Times.{hour}
 use Rattle.field_table.specs.declared.field_ref.FieldRef.{FieldRef}
 use Rattle.field_table.specs.declared.kind.Kind.TheVariants.{Eth}
 use Rattle.field_table.specs.FieldText.{field_text}
-use Rattle.command_words.specs.declared.kind.Kind.{Kind}
-use Rattle.command_words.specs.declared.kind.Kind.TheVariants.{Field, Number, File}
+use Rattle.command_words.specs.declared.kind.WordKind.{WordKind}
+use Rattle.command_words.specs.declared.kind.WordKind.TheVariants.{Field, Number, File}
 use Rattle.command_words.specs.declared.table.Name.{Name}
 use Rattle.command_words.specs.declared.table.Name.TheVariants.{Count, Stack, Check, Central, Help, Version}
 use Rattle.command_words.specs.Kinds.{HasKind, IsNumber, IsRequired}
@@ -21,12 +22,12 @@ use Rattle.command_words.proofs.Steps.{with_apart}
 use Rattle.command_words.proofs.Asking.{line_of, accepts}
 
 -- some word of a kind, that may stand where one is needed
-record Sample (kind : Kind) : Type 0 where
+record Sample (kind : WordKind) : Type 0 where
   word : List ℕ
   has : HasKind kind word
   required : IsRequired word
 
-abbrev Samples : List Kind → Type 0
+abbrev Samples : List WordKind → Type 0
 Samples [] = Unit {0}
 Samples (kind ∷ kinds) = Sample kind × Samples kinds
 
@@ -40,7 +41,7 @@ of_field = record { word = field_text a_field; has = (a_field, refl); required =
 digit : (d : ℕ) → d ≤ 9 → IsNumber ((48 + d) ∷ []) d
 digit d small = record { some = omega arith; few = omega arith; each = search rules; value = search rules }
 
-of_window : Sample (Number 0 3600000000000)
+of_window : Sample (Number 0 hour)
 of_window = record { word = 48 ∷ []; has = (0, digit 0 (omega arith), omega arith, omega arith); required = λ e. absurd (omega (arith, e)) }
 
 of_port : Sample (Number 1 65535)
@@ -67,19 +68,19 @@ of_option Stack zero h = of_port
 of_option Stack (suc zero) h = of_field
 of_option Stack (suc (suc k)) h = absurd (omega arith)
 
-still : (n : ℕ) (kinds : List Kind) → Samples kinds → Samples (drop n kinds)
+still : (n : ℕ) (kinds : List WordKind) → Samples kinds → Samples (drop n kinds)
 still zero kinds s = s
 still (suc n) [] s = tt
 still (suc n) (kind ∷ kinds) s = still n kinds s.1
 
 -- needed words alone
-record Needed (c : Name) (kinds : List Kind) : Type 0 where
+record Needed (c : Name) (kinds : List WordKind) : Type 0 where
   parts : List Part
   form : AreInForm c parts
   have : Have kinds (plain_words parts)
   nothing : (k : ℕ) → values_for k parts ≡ []
 
-needed : (c : Name) (kinds : List Kind) → Samples kinds → Needed c kinds
+needed : (c : Name) (kinds : List WordKind) → Samples kinds → Needed c kinds
 needed c [] s = record { parts = []; form = tt; have = tt; nothing = λ k. refl }
 needed c (kind ∷ kinds) s =
     let n = needed c kinds s.1 in

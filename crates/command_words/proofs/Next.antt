@@ -2,7 +2,7 @@
 use Rattle.std.proofs.Common.{ℕ, List, [], ◌∷◌, ◌++◌, ◌≡◌, ◌<◌, Option, Some, None, length, get_or, refl, sym, ap, ◌∙◌, subst, append_assoc, arith}
 use Rattle.std.specs.Prelude.{◌==◌, if◌then◌else◌}
 use Rattle.std.proofs.lemmas.List.{append-nil}
-use Rattle.command_words.specs.declared.kind.Kind.TheVariants.{File}
+use Rattle.command_words.specs.declared.kind.WordKind.TheVariants.{File}
 use Rattle.command_words.specs.declared.table.Name.{Name}
 use Rattle.command_words.specs.Kinds.{HasKind, IsRequired}
 use Rattle.command_words.specs.CommandTable.{plain_kinds, options_of, option_word, option_kind}

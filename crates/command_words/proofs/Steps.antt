@@ -4,8 +4,8 @@ use Rattle.std.specs.Prelude.{◌==◌, if◌then◌else◌}
 use Rattle.std.proofs.Math.ListN.{set}
 use Rattle.std.proofs.lemmas.Bool.{cases_Bool, eqb-true, eqb-false}
 use Rattle.std.proofs.lemmas.List.{append-nil, take_more_set, length-set, length-append, get_or-set_same, get_or-set_other}
-use Rattle.command_words.specs.declared.kind.Kind.TheVariants.{File}
-use Rattle.command_words.specs.declared.kind.Kind.{Kind}
+use Rattle.command_words.specs.declared.kind.WordKind.TheVariants.{File}
+use Rattle.command_words.specs.declared.kind.WordKind.{WordKind}
 use Rattle.command_words.specs.declared.table.Name.{Name}
 use Rattle.command_words.specs.declared.table.Name.TheVariants.{Count, Stack, Check, Central, Help, Version}
 use Rattle.command_words.specs.Kinds.{HasKind, IsRequired}
@@ -103,7 +103,7 @@ waited c count plain values ws k h less none =
     }
 
 -- one option more in its parts
-pub with_apart : (c : Name) (kinds : List Kind) (ps : List Part) (k : ℕ) (v : List ℕ) → AreParts c kinds ps → k < length (options_of c)
+pub with_apart : (c : Name) (kinds : List WordKind) (ps : List Part) (k : ℕ) (v : List ℕ) → AreParts c kinds ps → k < length (options_of c)
     → values_for k ps ≡ [] → IsRequired v → HasKind (option_kind c k) v → AreParts c kinds (ps ++ (Apart k v ∷ []))
 with_apart c kinds ps k v h less none required has =
     record {
@@ -112,7 +112,7 @@ with_apart c kinds ps k v h less none required has =
       options = λ j. rw (apart_values j k v ps) (still_one c j k v ps h.options none has (cases_Bool (eqb k j)));
     }
 
-with_joined : (c : Name) (kinds : List Kind) (ps : List Part) (k : ℕ) (v : List ℕ) → AreParts c kinds ps → k < length (options_of c)
+with_joined : (c : Name) (kinds : List WordKind) (ps : List Part) (k : ℕ) (v : List ℕ) → AreParts c kinds ps → k < length (options_of c)
     → values_for k ps ≡ [] → HasKind (option_kind c k) v → AreParts c kinds (ps ++ (Joined k v ∷ []))
 with_joined c kinds ps k v h less none has =
     record {

@@ -2,9 +2,9 @@
 use Rattle.std.proofs.Common.{ℕ, List, [], ◌∷◌, ◌++◌, ◌≡◌, ◌<◌, ◌+◌, Option, Some, None, IfSome, IfNone, length, map, get_or, sym, ◌∙◌, subst, arith}
 use Rattle.std.proofs.Math.ListN.{set}
 use Rattle.std.proofs.lemmas.List.{length-map}
-use Rattle.command_words.specs.declared.kind.Kind.{Kind}
+use Rattle.command_words.specs.declared.kind.WordKind.{WordKind}
 use Rattle.command_words.specs.declared.shape.Shape.{Shape}
-use Rattle.command_words.specs.declared.kind.Kind.TheVariants.{File}
+use Rattle.command_words.specs.declared.kind.WordKind.TheVariants.{File}
 use Rattle.command_words.specs.declared.table.Name.{Name}
 use Rattle.command_words.specs.declared.reading.Read.{Read}
 use Rattle.command_words.specs.Kinds.{HasKind, IsRequired}
@@ -106,7 +106,7 @@ pub shape_at : (c : Name) (names : List (List ℕ)) (w : List ℕ) (s t : Shape)
 shape_at c names w s t e same h = subst (λ x. HasShape (map (λ o. o.0) (options_of c)) w x) same (subst (λ x. HasShape x w s) e h)
 
 pub within : (c : Name) (k : ℕ) → k < length (map (λ o. o.0) (options_of c)) → k < length (options_of c)
-within c k less = omega (arith, less, length-map {A = List ℕ × Kind} {B = List ℕ} (options_of c) (λ o. o.0))
+within c k less = omega (arith, less, length-map {A = List ℕ × WordKind} {B = List ℕ} (options_of c) (λ o. o.0))
 
 pub none_at : (c : Name) (names : List (List ℕ)) (w : List ℕ) (n : ℕ) → names ≡ map (λ o. o.0) (options_of c) → n ≡ length (options_of c)
     → ((k : ℕ) → k < n → NoOption (get_or names k []) w) → (k : ℕ) → k < length (options_of c) → NoOption (option_word c k) w

@@ -1,6 +1,6 @@
 -- A command line: the command's word, and behind it its parts.
 use Rattle.std.specs.Prelude.{ℕ, List, [], ◌∷◌, ◌++◌, ◌<◌, ◌==◌, if◌then◌else◌, length}
-use Rattle.command_words.specs.declared.kind.Kind.{Kind}
+use Rattle.command_words.specs.declared.kind.WordKind.{WordKind}
 use Rattle.command_words.specs.declared.table.Name.{Name}
 use Rattle.command_words.specs.Kinds.{IsRequired, HasKind}
 use Rattle.command_words.specs.CommandTable.{plain_kinds, options_of, option_word, option_kind}
@@ -45,20 +45,20 @@ AreInForm command [] = Unit {0}
 AreInForm command (part ∷ parts) = InForm command part × AreInForm command parts
 
 -- the words have these kinds, one each and in order
-abbrev pub Have : List Kind → List (List ℕ) → Type 0
+abbrev pub Have : List WordKind → List (List ℕ) → Type 0
 Have [] [] = Unit {0}
 Have (kind ∷ kinds) (word ∷ words) = HasKind kind word × Have kinds words
 Have [] (word ∷ words) = ⊥
 Have (kind ∷ kinds) [] = ⊥
 
 -- nothing, or one word of this kind
-abbrev pub AtMostOne : Kind → List (List ℕ) → Type 0
+abbrev pub AtMostOne : WordKind → List (List ℕ) → Type 0
 AtMostOne kind [] = Unit {0}
 AtMostOne kind (word ∷ []) = HasKind kind word
 AtMostOne kind (word ∷ again ∷ words) = ⊥
 
 -- the parts of an accepted command line, where the needed words are to have these kinds
-pub record AreParts (command : Name) (kinds : List Kind) (parts : List Part) : Type 0 where
+pub record AreParts (command : Name) (kinds : List WordKind) (parts : List Part) : Type 0 where
   pub form : AreInForm command parts
   pub plain : Have kinds (plain_words parts)
   pub options : (k : ℕ) → AtMostOne (option_kind command k) (values_for k parts)

@@ -1,7 +1,8 @@
 -- The commands: one row for each, with the words that it needs and the options that it has.
 use Rattle.std.specs.Prelude.{ℕ, List, [], ◌∷◌, codes, map, slice_index_or}
-use Rattle.command_words.specs.declared.kind.Kind.{Kind}
-use Rattle.command_words.specs.declared.kind.Kind.TheVariants.{Field, Number, File}
+use Rattle.ds_base.specs.Times.{hour}
+use Rattle.command_words.specs.declared.kind.WordKind.{WordKind}
+use Rattle.command_words.specs.declared.kind.WordKind.TheVariants.{Field, Number, File}
 use Rattle.command_words.specs.declared.table.Name.{Name}
 use Rattle.command_words.specs.declared.table.Name.TheVariants.{Count, Stack, Check, Central, Help, Version}
 
@@ -9,14 +10,14 @@ use Rattle.command_words.specs.declared.table.Name.TheVariants.{Count, Stack, Ch
 -- options with what the option's value may be
 pub record CommandRow : Type 0 where
   pub word : List ℕ
-  pub plain : List Kind
-  pub options : List (List ℕ × Kind)
+  pub plain : List WordKind
+  pub options : List (List ℕ × WordKind)
 
 -- the table; a window is at most an hour in nanoseconds
 abbrev pub table_row : Name → CommandRow
 table_row Count = record {
   word = codes "count";
-  plain = Field ∷ Number 0 3600000000000 ∷ File ∷ [];
+  plain = Field ∷ Number 0 hour ∷ File ∷ [];
   options = [];
 }
 table_row Stack = record {
@@ -32,10 +33,10 @@ table_row Version = record { word = codes "--version"; plain = []; options = [] 
 abbrev pub command_word : Name → List ℕ
 command_word command = (table_row command).word
 
-abbrev pub plain_kinds : Name → List Kind
+abbrev pub plain_kinds : Name → List WordKind
 plain_kinds command = (table_row command).plain
 
-abbrev pub options_of : Name → List (List ℕ × Kind)
+abbrev pub options_of : Name → List (List ℕ × WordKind)
 options_of command = (table_row command).options
 
 -- the word of the option of this number
@@ -43,5 +44,5 @@ abbrev pub option_word : Name → ℕ → List ℕ
 option_word command k = slice_index_or (map (λ o. o.0) (options_of command)) k []
 
 -- what the value of the option of this number may be
-abbrev pub option_kind : Name → ℕ → Kind
+abbrev pub option_kind : Name → ℕ → WordKind
 option_kind command k = slice_index_or (map (λ o. o.1) (options_of command)) k File

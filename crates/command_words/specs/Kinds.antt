@@ -5,8 +5,8 @@ use Rattle.std.specs.List.{All}
 use Rattle.std.specs.Int.Digits.{number_from_digits}
 use Rattle.field_table.specs.declared.field_ref.FieldRef.{FieldRef}
 use Rattle.field_table.specs.FieldText.{field_text}
-use Rattle.command_words.specs.declared.kind.Kind.{Kind}
-use Rattle.command_words.specs.declared.kind.Kind.TheVariants.{Field, Number, File}
+use Rattle.command_words.specs.declared.kind.WordKind.{WordKind}
+use Rattle.command_words.specs.declared.kind.WordKind.TheVariants.{Field, Number, File}
 
 -- the digits say this number: 1 to 20 of them, zeros in front allowed
 pub record IsNumber (digits : List ℕ) (n : ℕ) : Type 0 where
@@ -21,7 +21,7 @@ IsRequired [] = ⊥
 IsRequired (first ∷ rest) = first ≢ 45
 
 -- a word of this kind: the text of a field, a number in its limits, or any name of a file
-abbrev pub HasKind : Kind → List ℕ → Type 0
+abbrev pub HasKind : WordKind → List ℕ → Type 0
 HasKind Field word = (f : FieldRef) × (word ≡ field_text f)
 HasKind (Number least most) word = (n : ℕ) × IsNumber word n × (least ≤ n) × (n ≤ most)
 HasKind File word = Unit {0}

@@ -1,3 +1,5 @@
+//! Commands, with their values.
+
 ghost use Rattle.std.specs.Prelude.{◌≡◌, ◌∷◌, ℕ, List, IfSome, IfNone, Option, option_map, take, map};
 ghost use Rattle.command_words.specs.CommandTable.{command_word, plain_kinds, option_kind};
 ghost use Rattle.command_words.specs.CommandLine.{Have, AtMostOne};
@@ -5,13 +7,11 @@ ghost use Rattle.command_words.specs.Words.{Asked, Accepts, Says, NumberOr, Fiel
 ghost use Rattle.command_words.specs.Command.{asked_of};
 ghost use Rattle.command_words.specs.Reading.{Stands, given_values, one_or_none};
 
-use crate::kind::{Kind, number_within};
+use crate::kind::{WordKind, number_within};
 use crate::reading::Read;
 use crate::table::{MOST_OPTIONS, MOST_WORDS, Name, row_of};
+use ds_base::HOUR;
 use field_table::{FieldRef, field};
-
-/// How long a window is at most, in nanoseconds: an hour.
-const LONGEST_WINDOW: u64 = 3_600_000_000_000;
 
 /// The port of VXLAN where none is given.
 const VXLAN_PORT: u16 = 4789;
@@ -82,7 +82,7 @@ fn count_of<'a>(plain: [&'a str; MOST_WORDS]) -> Option<Command<'a>>
     ensures none { IfNone result (Have (plain_kinds Name.Count) (take 3 (map (λ w. w.now) plain.entry)) → ⊥) }
 {
     let field = field(plain[0])?;
-    let window = number_within(plain[1], 0, LONGEST_WINDOW)?;
+    let window = number_within(plain[1], 0, HOUR)?;
     Some(Command::Count {
         field,
         window,
@@ -132,7 +132,7 @@ fn central_of<'a>(plain: [&'a str; MOST_WORDS]) -> Command<'a>
 fn port_of(value: Option<&str>) -> Option<u16>
     ensures said { IfSome result (NumberOr 4789 (one_or_none (option_map (λ w. w.now) value.entry))) }
     ensures only { IfSome result (λ n. (m : ℕ) → NumberOr 4789 (one_or_none (option_map (λ w. w.now) value.entry)) m → m ≡ n) }
-    ensures none { IfNone result (AtMostOne (Kind.Number 1 65535) (one_or_none (option_map (λ w. w.now) value.entry)) → ⊥) }
+    ensures none { IfNone result (AtMostOne (WordKind.Number 1 65535) (one_or_none (option_map (λ w. w.now) value.entry)) → ⊥) }
 {
     match value {
         Some(word) => {
@@ -147,7 +147,7 @@ fn port_of(value: Option<&str>) -> Option<u16>
 fn shown_field(value: Option<&str>) -> Option<Option<FieldRef>>
     ensures said { IfSome result (FieldOr (one_or_none (option_map (λ w. w.now) value.entry))) }
     ensures only { IfSome result (λ f. (g : Option FieldRef) → FieldOr (one_or_none (option_map (λ w. w.now) value.entry)) g → g ≡ f) }
-    ensures none { IfNone result (AtMostOne Kind.Field (one_or_none (option_map (λ w. w.now) value.entry)) → ⊥) }
+    ensures none { IfNone result (AtMostOne WordKind.Field (one_or_none (option_map (λ w. w.now) value.entry)) → ⊥) }
 {
     match value {
         Some(word) => {

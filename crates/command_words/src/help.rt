@@ -1,3 +1,5 @@
+//! What is printed for people.
+
 // The table of commands, for people. Whoever adds a command to the table adds its lines here, and
 // keeps them within 40 lines of 80 columns.
 

@@ -1,3 +1,5 @@
+//! What a word of the command line may be.
+
 ghost use Rattle.std.specs.Prelude.{◌≡◌, ◌≤◌, ◌↔◌, ℕ, IsTrue, IfSome};
 ghost use Rattle.command_words.specs.Kinds.{HasKind, IsNumber, IsRequired};
 
@@ -6,7 +8,7 @@ use field_table::field;
 
 /// What a word of the command line may be.
 #[derive(Clone, Copy, Debug, PartialEq, Eq)]
-pub(crate) enum Kind {
+pub(crate) enum WordKind {
     /// The text of a field.
     Field,
     /// A number from the first to the second, in 1 to 20 decimal digits.
@@ -26,18 +28,18 @@ pub(crate) fn is_required(word: &str) -> bool
 }
 
 /// Whether the word is of the kind.
-pub(crate) fn has_kind(kind: Kind, word: &str) -> bool
+pub(crate) fn has_kind(kind: WordKind, word: &str) -> bool
     ensures { IsTrue result ↔ HasKind kind word.now }
 {
     match kind {
-        Kind::Field => is_field(word),
-        Kind::Number(least, most) => is_within(word, least, most),
-        Kind::File => true,
+        WordKind::Field => is_field(word),
+        WordKind::Number(least, most) => is_within(word, least, most),
+        WordKind::File => true,
     }
 }
 
 fn is_field(word: &str) -> bool
-    ensures { IsTrue result ↔ HasKind Kind.Field word.now }
+    ensures { IsTrue result ↔ HasKind WordKind.Field word.now }
 {
     match field(word) {
         Some(_) => true,
@@ -46,7 +48,7 @@ fn is_field(word: &str) -> bool
 }
 
 fn is_within(word: &str, least: u64, most: u64) -> bool
-    ensures { IsTrue result ↔ HasKind (Kind.Number least most) word.now }
+    ensures { IsTrue result ↔ HasKind (WordKind.Number least most) word.now }
 {
     match number_within(word, least, most) {
         Some(_) => true,

@@ -1,3 +1,5 @@
+//! Numbers of the command line.
+
 ghost use Rattle.std.specs.Prelude.{◌≡◌, ◌<◌, ◌^◌, ℕ, IfSome, IfNone};
 ghost use Rattle.command_words.specs.Kinds.{IsNumber};
 

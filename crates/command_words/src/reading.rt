@@ -1,9 +1,11 @@
+//! The state of the reader of words.
+
 ghost use Rattle.std.specs.Prelude.{◌≡◌, ◌++◌, ◌∷◌, [], ◌<◌, ◌≤◌, ◌+◌, ℕ, List, IfSome, IfNone, Option, None, Some, length, slice_set, slice_index_or};
 ghost use Rattle.command_words.specs.Kinds.{HasKind, IsRequired};
 ghost use Rattle.command_words.specs.CommandTable.{plain_kinds, options_of, option_kind};
 ghost use Rattle.command_words.specs.Reading.{Stands, Becomes, Goes, shown_words, shown_values, left_of};
 
-use crate::kind::{Kind, has_kind, is_required};
+use crate::kind::{WordKind, has_kind, is_required};
 use crate::shape::{Shape, shape_of};
 use crate::table::{MOST_OPTIONS, MOST_WORDS, Name, row_of};
 
@@ -59,9 +61,9 @@ pub(crate) fn step<'a>(command: Name, read: Read<'a>, word: &'a str) -> Option<R
 /// Takes a word that the command needs. None: it needs no more, or the word is not of the kind.
 fn take_word<'a>(command: Name, read: Read<'a>, word: &'a str) -> Option<Read<'a>>
     ensures more { IfSome result (λ next. read.entry.count < length (plain_kinds command)) }
-    ensures kind { IfSome result (λ next. HasKind (slice_index_or (plain_kinds command) read.entry.count Kind.File) word.now) }
+    ensures kind { IfSome result (λ next. HasKind (slice_index_or (plain_kinds command) read.entry.count WordKind.File) word.now) }
     ensures becomes { IfSome result (λ next. Becomes next (read.entry.count + 1) (slice_set (shown_words read.entry) read.entry.count word.now) (shown_values read.entry) None) }
-    ensures none { IfNone result (read.entry.count < length (plain_kinds command) → HasKind (slice_index_or (plain_kinds command) read.entry.count Kind.File) word.now → ⊥) }
+    ensures none { IfNone result (read.entry.count < length (plain_kinds command) → HasKind (slice_index_or (plain_kinds command) read.entry.count WordKind.File) word.now → ⊥) }
 {
     let kinds = row_of(command).plain;
     if read.count >= kinds.len() || !has_kind(kinds[read.count], word) {

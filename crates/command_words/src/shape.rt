@@ -1,8 +1,10 @@
+//! Words that are options, and words that are not.
+
 ghost use Rattle.std.specs.Prelude.{◌≡◌, ◌≢◌, ◌++◌, ◌<◌, ℕ, List, [], ◌∷◌, IfSome, IfNone, MatchOption, length, map, slice_index_or};
 ghost use Rattle.command_words.specs.Kinds.{IsRequired};
 ghost use Rattle.command_words.specs.Reading.{HasShape, IsOption, NoOption};
 
-use crate::kind::{Kind, is_required};
+use crate::kind::{WordKind, is_required};
 
 /// What a word is where no option waits for its value.
 #[derive(Clone, Copy)]
@@ -16,7 +18,7 @@ pub(crate) enum Shape<'a> {
 }
 
 /// What a word is, where these are the options. None: neither a needed word nor an option.
-pub(crate) fn shape_of<'a>(options: &[(&str, Kind)], word: &'a str) -> Option<Shape<'a>>
+pub(crate) fn shape_of<'a>(options: &[(&str, WordKind)], word: &'a str) -> Option<Shape<'a>>
     ensures is { IfSome result (λ shape. HasShape (map (λ o. o.0.now) options.now) word.now shape) }
     ensures no_word { IfNone result (IsRequired word.now → ⊥) }
     ensures no_option { IfNone result ((k : ℕ) → k < length options.now → NoOption (slice_index_or (map (λ o. o.0.now) options.now) k []) word.now) }
@@ -28,7 +30,7 @@ pub(crate) fn shape_of<'a>(options: &[(&str, Kind)], word: &'a str) -> Option<Sh
 }
 
 /// The option that a word is, with its value where the word has one.
-fn option_of<'a>(options: &[(&str, Kind)], word: &'a str) -> Option<Shape<'a>>
+fn option_of<'a>(options: &[(&str, WordKind)], word: &'a str) -> Option<Shape<'a>>
     ensures is { IfSome result (λ shape. HasShape (map (λ o. o.0.now) options.now) word.now shape) }
     ensures none { IfNone result ((k : ℕ) → k < length options.now → NoOption (slice_index_or (map (λ o. o.0.now) options.now) k []) word.now) }
 {

@@ -1,7 +1,10 @@
+//! The table of commands.
+
 ghost use Rattle.std.specs.Prelude.{◌≡◌, ◌≤◌, IfSome, map, length};
 ghost use Rattle.command_words.specs.CommandTable.{command_word, plain_kinds, options_of};
 
-use crate::kind::Kind;
+use crate::kind::WordKind;
+use ds_base::HOUR;
 
 // Whoever adds a command names it here, gives it its word and its row, and the same row in
 // specs/CommandTable; says in specs/Words what it asks, and gives it an arm in command.rt. Nothing
@@ -34,9 +37,9 @@ pub(crate) const MOST_OPTIONS: usize = 2;
 #[derive(Clone, Copy)]
 pub(crate) struct Row {
     /// The words that the command needs, in order.
-    pub plain: &'static [Kind],
+    pub plain: &'static [WordKind],
     /// The word of each option, and what its value may be.
-    pub options: &'static [(&'static str, Kind)],
+    pub options: &'static [(&'static str, WordKind)],
 }
 
 /// The row of a command in the table of commands.
@@ -50,18 +53,18 @@ pub(crate) fn row_of(command: Name) -> Row
 {
     match command {
         Name::Count => Row {
-            plain: &[Kind::Field, Kind::Number(0, 3_600_000_000_000), Kind::File],
+            plain: &[WordKind::Field, WordKind::Number(0, HOUR), WordKind::File],
             options: &[],
         },
         Name::Stack => Row {
-            plain: &[Kind::File],
+            plain: &[WordKind::File],
             options: &[
-                ("--port", Kind::Number(1, 65_535)),
-                ("--field", Kind::Field),
+                ("--port", WordKind::Number(1, 65_535)),
+                ("--field", WordKind::Field),
             ],
         },
         Name::Check | Name::Central => Row {
-            plain: &[Kind::File],
+            plain: &[WordKind::File],
             options: &[],
         },
         Name::Help | Name::Version => Row {

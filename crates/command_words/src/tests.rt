@@ -1,3 +1,5 @@
+//! Words that are accepted, and the places of words that are refused.
+
 use crate::{Command, HELP, Misplaced, VERSION_LINE, read_words};
 use field_table::field;
 use std::alloc::{AllocError, Global};

@@ -1,13 +1,13 @@
 use Rattle.std.proofs.Common.{ℕ, List, Option, None, option_map, map, get_or, Bor, subst}
 use Rattle.std.proofs.Math.ListN.{get_or-map}
-use Rattle.command_words.specs.declared.kind.Kind.{Kind}
-use Rattle.command_words.specs.declared.kind.Kind.TheVariants.{Field, Number}
+use Rattle.command_words.specs.declared.kind.WordKind.{WordKind}
+use Rattle.command_words.specs.declared.kind.WordKind.TheVariants.{Field, Number}
 use Rattle.command_words.specs.CommandLine.{AtMostOne}
 use Rattle.command_words.specs.Reading.{one_or_none}
 use Rattle.command_words.proofs.command.stack_of.Goals as goal
 
 -- what is shown of the list's item is the item of the list that is shown
-shown : (kind : Kind) (values : List (Option (Bor (List ℕ)))) (k : ℕ)
+shown : (kind : WordKind) (values : List (Option (Bor (List ℕ)))) (k : ℕ)
     → AtMostOne kind (one_or_none (get_or (map (λ v. option_map (λ w. w.now) v) values) k None))
     → AtMostOne kind (one_or_none (option_map (λ w. w.now) (get_or values k None)))
 shown kind values k h =
