@@ -1,18 +1,10 @@
 -- A member of a group, by its place.
 use Rattle.std.proofs.Common.{◌≡◌, ℕ, ◌+◌, ◌<◌, List, ◌∷◌, length, drop, Some, sym, ap, subst, ◌∙◌, All, slice_get}
-use Rattle.std.proofs.lemmas.List.{at_drop_more}
-use Rattle.std.proofs.lemmas.Option.{slice_get_within, get_or_from_slice_get, slice_get-map}
+use Rattle.std.proofs.lemmas.Option.{slice_get-map}
+use Rattle.ds_base.proofs.Places.{drop_at}
 use Rattle.ds_base.specs.declared.summary.Summary.{Summary}
 use Rattle.query_lang.specs.Groups.{values, value_in}
 use Rattle.query_lang.specs.Expression.{Expression, Literal, Reading, Negation, Operation, AllTerms, VariableBelow, VariablesBelow}
-
--- the item at i begins what stands from i on
-pub drop_at : {X : Type 0} (xs : List X) (i : ℕ) (x : X) → slice_get xs i ≡ Some x → drop i xs ≡ x ∷ drop (i + 1) xs
-drop_at xs i x e = at_drop_more (λ l. l) xs i x (slice_get_within xs i x e) ∙ ap (λ y. y ∷ drop (i + 1) xs) (get_or_from_slice_get xs i x x e)
-
--- what holds of each item holds of the one at i
-pub all_at : {X : Type 0} (P : X → Type 0) (xs : List X) (i : ℕ) (x : X) → All P xs → slice_get xs i ≡ Some x → P x
-all_at P xs i x all e = subst P (get_or_from_slice_get xs i x x e) (all i x (slice_get_within xs i x e))
 
 pub value_is : (v : ℕ) (ms : List Summary) (i : ℕ) (m : Summary) (n : ℕ) → slice_get ms i ≡ Some m → n ≡ value_in v m → slice_get (values v ms) i ≡ Some n
 value_is v ms i m n e f = slice_get-map (value_in v) ms i ∙ rw e (ap Some (sym f))

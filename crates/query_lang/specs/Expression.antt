@@ -1,3 +1,4 @@
+-- What an expression is, without where it lies in memory.
 use Rattle.std.specs.Prelude.{ℕ, ◌<◌}
 use Rattle.query_tokens.specs.declared.token.Operator.{Operator}
 use Rattle.query_lang.specs.declared.expression.Expr.{Expr, Number, Read, Not', Binary'}
@@ -10,6 +11,7 @@ pub data Expression : Type 0 where
   Reading : Term → Expression
   Negation : Expression → Expression
   Operation : Operator → Expression → Expression → Expression
+  deriving IsSet as Expression-set
 
 -- what an `Expr` shows
 abbrev pub expression_of : Expr → Expression

@@ -1,3 +1,4 @@
+-- What the grammar gives for a text, or refuses.
 use Rattle.std.specs.Prelude.{ℕ, ◌≡◌, ◌<◌, ◌⊎◌, Bool, true, false, List, [], ◌∷◌, ◌++◌, Option, Some, None, Result, Ok, Err, if◌then◌else◌}
 use Rattle.query_tokens.specs.declared.token.Part.{Part}
 use Rattle.query_tokens.specs.declared.token.Part.TheVariants as part

@@ -1,3 +1,4 @@
+-- The meaning of an expression over a group.
 use Rattle.std.specs.Prelude.{ℕ, ◌+◌, ◌-◌, Bool, List, [], ◌∷◌, length, map, min, max, fold, find, count_by, Option, Some, None, ◌==◌, if◌then◌else◌, slice_get, slice_index, option_map, option_and_then}
 use Rattle.std.specs.List.{list_any}
 use Rattle.ds_base.specs.declared.summary.Summary.{Summary}

@@ -1,3 +1,4 @@
+-- The meaning of an expression.
 use Rattle.std.specs.Prelude.{ℕ, ◌+◌, ◌-◌, ◌*◌, ◌/◌, ◌%◌, ◌^◌, Bool, not, Option, Some, None, nat_lt, nat_le, ◌==◌, if◌then◌else◌, bit_and, option_and_then}
 use Rattle.std.specs.Option.{option_or}
 use Rattle.query_tokens.specs.declared.token.Operator.{Operator}

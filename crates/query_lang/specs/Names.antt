@@ -1,3 +1,4 @@
+-- Names and their numbers.
 use Rattle.std.specs.Prelude.{ℕ, Bool, List, take, drop, length, bytes_eq, nat_lt}
 use Rattle.std.specs.List.{position_or_len}
 use Rattle.ds_base.specs.Items.{Items}

@@ -1,3 +1,4 @@
+-- The meaning of an expression over a summary.
 use Rattle.std.specs.Prelude.{ℕ, Option, Some, None, slice_get}
 use Rattle.ds_base.specs.declared.summary.Summary.{Summary}
 use Rattle.query_lang.specs.declared.expression.Term.{Term}

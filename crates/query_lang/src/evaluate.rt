@@ -1,3 +1,5 @@
+//! The meaning of an expression over a summary and over a group.
+
 ghost use Rattle.std.specs.Prelude.{◌≡◌, ◌<◌, length, All};
 ghost use Rattle.query_lang.specs.Expression.{expression_of, AllTerms, VariableBelow, VariablesBelow};
 ghost use Rattle.query_lang.specs.Meaning.{meaning};

@@ -1,3 +1,5 @@
+//! What an expression is.
+
 use query_tokens::Operator;
 
 /// What an expression reads of the summary or the group that it is evaluated over. Variables and

@@ -1,3 +1,5 @@
+//! The law of one answer.
+
 ghost use Rattle.std.specs.Prelude.{◌≡◌, ℕ, List};
 ghost use Rattle.query_syntax.specs.declared.fault.ParseFault.TheVariants.{Bad};
 ghost use Rattle.query_syntax.specs.declared.fault.QueryFault.{QueryFault};

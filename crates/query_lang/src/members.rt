@@ -1,3 +1,5 @@
+//! What the terms of a group read of its members.
+
 ghost use Rattle.std.specs.Prelude.{◌≡◌, ◌==◌, ◌+◌, ◌≤◌, ◌<◌, ◌∷◌, Some, length, drop, slice_get, count_by, find, option_map, All};
 ghost use Rattle.std.specs.List.{list_any};
 ghost use Rattle.query_lang.specs.Expression.{VariableBelow};
@@ -27,7 +29,7 @@ pub(crate) fn read_of_members(members: &SummaryList, term: Term) -> Option<u128>
 }
 
 // The member at `i`.
-#[tactic(auto, using(crate::proofs::Places::drop_at))]
+#[tactic(auto, using(ds_base::proofs::Places::drop_at))]
 fn member(members: &SummaryList, i: u64) -> &Summary
     requires { i < length members.now.items }
     ensures member { slice_get members.now.items i ≡ Some result.now }
@@ -45,7 +47,7 @@ fn value_in(member: &Summary, variable: u32) -> u128
 }
 
 // The value of a variable in the member at `i`.
-#[tactic(auto, using(crate::proofs::Places::value_is, crate::proofs::Places::values_at, crate::proofs::Places::all_at))]
+#[tactic(auto, using(crate::proofs::Places::value_is, crate::proofs::Places::values_at, ds_base::proofs::Places::all_at))]
 fn value_at(members: &SummaryList, variable: u32, i: u64) -> u128
     requires place { i < length members.now.items }
     requires variable { All (λ s. variable < length s.vals) members.now.items }

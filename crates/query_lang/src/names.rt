@@ -1,3 +1,5 @@
+//! The names that an expression may use.
+
 ghost use Rattle.std.specs.Prelude.{◌≡◌, ◌<◌, ◌^◌, ◌+◌, ◌∷◌, true, false, length, drop, MatchResult};
 ghost use Rattle.query_lang.specs.Names.{word_in, place, is_named};
 
@@ -48,7 +50,7 @@ pub(crate) fn barred(at: u32) -> ParseFault
 }
 
 // Name number `i`.
-#[tactic(auto, using(crate::proofs::Places::drop_at))]
+#[tactic(auto, using(ds_base::proofs::Places::drop_at))]
 fn name(names: &NameList, i: u64) -> &Text
     requires { i < length names.now.items }
     ensures { drop i names.now.items ≡ result.now ∷ drop (i + 1) names.now.items }

@@ -1,3 +1,5 @@
+//! What the operators give.
+
 ghost use Rattle.std.specs.Prelude.{◌≡◌};
 ghost use Rattle.query_lang.specs.Meaning.{truth, decided, joined};
 

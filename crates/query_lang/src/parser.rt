@@ -1,3 +1,5 @@
+//! A text, parsed to an expression.
+
 ghost use Rattle.std.specs.Prelude.{◌≤◌, ◌<◌, ◌^◌, length, IfOk, IfErr};
 ghost use Rattle.query_lang.specs.Expression.{expression_of, AllTerms, VariablesBelow};
 ghost use Rattle.query_lang.specs.Grammar.{Gives, Refuses, InScope};

@@ -1,3 +1,5 @@
+//! The names of a syntax tree, looked up.
+
 ghost use Rattle.std.specs.Prelude.{◌≡◌, ◌<◌, ◌^◌, [], length, IfOk, IfErr};
 ghost use Rattle.query_syntax.specs.Tree.{tree_of};
 ghost use Rattle.query_lang.specs.Expression.{expression_of, Negation, Operation};

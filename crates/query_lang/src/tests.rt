@@ -1,7 +1,11 @@
+//! Expressions: their tokens, trees, faults and values, beside what formats say of them.
+
 ghost use Rattle.std.specs.Prelude.{◌≡◌, ◌<◌, ◌∷◌, [], ◌++◌, length, IfOk, OnOk, All};
 
 use crate::{Expr, Names, ParseFault, QueryFault, QueryWhat, Scope, eval_group, eval_one, parse};
 use ds_base::{Group, ItemList, NameList, Nums, OutOfMemory, Stamp, Summary, Text};
+use query_syntax::{Syntax, syntax_of};
+use query_tokens::{Operator, tokens_of};
 use std::alloc::Global;
 use std::process::Abort;
 use std::test::Fail;
@@ -197,5 +201,31 @@ fn long_texts_are_read(rt: HostRuntime) -> Result<(), Fail> {
             what: QueryWhat::Syntax
         })
     );
+    Ok(())
+}
+
+#[test]
+fn texts_are_split_into_tokens(rt: HostRuntime) -> Result<(), Fail> {
+    for (text, count, stop) in [
+        ("seen( s1 ) * 10", 6, None),
+        ("0x1f<=10.0.0.1", 3, None),
+        ("id $ 1", 1, Some(3)),
+        ("1.5", 0, Some(0)),
+        ("", 0, None),
+    ] {
+        assert!(rt; text.len() < 100);
+        let lexing = tokens_of(rt.alloc(), text)?;
+        assert_eq!(rt; (lexing.tokens.len(), lexing.stop), (count, stop), "{text}");
+    }
+    Ok(())
+}
+
+#[test]
+fn a_tree_keeps_its_parentheses(rt: HostRuntime) -> Result<(), Fail> {
+    let tree = syntax_of(rt.alloc(), "(1 + 2) * 3")?;
+    let Syntax::Joined(Operator::Times, left, _) = tree else {
+        return Err("no product")?;
+    };
+    assert!(rt; matches!(*left, Syntax::Parenthesis(_)));
     Ok(())
 }

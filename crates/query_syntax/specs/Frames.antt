@@ -1,3 +1,4 @@
+-- What stands on the machine's stack.
 use Rattle.std.specs.Prelude.{List, map, reverse}
 use Rattle.query_syntax.specs.declared.stack.Frame.{Frame}
 use Rattle.query_syntax.specs.declared.stack.Frame.TheVariants.{Left, Open, Not}

@@ -1,3 +1,4 @@
+-- The grammar of expressions over tokens.
 use Rattle.std.specs.Prelude.{ℕ, ◌≡◌, ◌+◌, ◌≤◌, Bool, List, ◌++◌, ◌==◌, if◌then◌else◌}
 use Rattle.query_tokens.specs.declared.token.Token.{Token}
 use Rattle.query_tokens.specs.declared.token.Operator.{Operator}

@@ -1,3 +1,5 @@
+//! Calls, as they are read.
+
 ghost use Rattle.std.specs.Prelude.{◌≡◌};
 ghost use Rattle.query_syntax.specs.Faults.{is_open, is_close};
 ghost use Rattle.query_syntax.specs.Machine.{is_comma, name_in, want, inside};

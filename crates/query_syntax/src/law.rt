@@ -1,3 +1,5 @@
+//! The laws of one reading and of one outcome.
+
 ghost use Rattle.std.specs.Prelude.{◌≡◌, ℕ, List};
 ghost use Rattle.query_tokens.specs.declared.token.Token.{Token};
 ghost use Rattle.query_syntax.specs.declared.fault.QueryWhat.{QueryWhat};

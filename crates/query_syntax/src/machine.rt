@@ -1,3 +1,5 @@
+//! The machine that reads tokens.
+
 ghost use Rattle.std.specs.Prelude.{◌≡◌, IfOk, option_map};
 ghost use Rattle.query_syntax.specs.Tree.{tree_of};
 ghost use Rattle.query_syntax.specs.Frames.{frames, state_of};

@@ -1,3 +1,5 @@
+//! How strongly operators bind.
+
 ghost use Rattle.std.specs.Prelude.{◌≡◌};
 ghost use Rattle.query_syntax.specs.Grammar.{rank, left_rank, is_comparison};
 

@@ -1,3 +1,5 @@
+//! What waits on the machine's stack.
+
 ghost use Rattle.std.specs.Prelude.{◌≡◌, ◌+◌, true, false, [], ◌∷◌, length, OnOk, IfOk, MatchOption, option_copied, option_map};
 ghost use Rattle.query_syntax.specs.Tree.{tree_of, Joined};
 ghost use Rattle.query_syntax.specs.Frames.{frame_of, frames};

@@ -1,3 +1,5 @@
+//! A text, read to a syntax tree.
+
 ghost use Rattle.std.specs.Prelude.{◌≡◌, ◌==◌, ◌-◌, ◌&&◌, Err, ◌<◌, ◌^◌, length, slice_get, Some, if◌then◌else◌, IfOk, IfErr};
 ghost use Rattle.query_syntax.specs.Tree.{tree_of};
 ghost use Rattle.query_syntax.specs.Faults.{is_open, is_close, Reads, TellsFault};

@@ -1,3 +1,5 @@
+//! What a syntax tree is.
+
 use query_tokens::{Measure, Operator, Part, Pick, Word};
 
 /// A part of an expression that holds no other: a number, a name, a reserved word or a call. Each
