@@ -1,5 +1,5 @@
 -- The function of a field's text is its one reading.
-use Rattle.std.proofs.Common.{◌≡◌, List, ℕ, Bool, Option, Some, None, sym, ap, ◌∙◌, refl}
+use Rattle.std.proofs.Common.{◌≡◌, List, ℕ, Bool, Option, Some, None, sym, ap, ◌∙◌, subst, refl}
 use Rattle.field_table.specs.declared.kind.Kind.{Kind}
 use Rattle.field_table.specs.declared.field_ref.FieldRef.{FieldRef}
 use Rattle.field_table.specs.FieldText.{field_text}
@@ -42,3 +42,13 @@ field_spelled text f spelled = ref_spelled text (parts_of text) refl f spelled
 pub field_none : (text : List ℕ) → ((f : FieldRef) → text ≡ field_text f → ⊥) → field_of text ≡ None
 unfolding field_of
 field_none text never = ref_none text (parts_of text) refl never
+
+ref_found : (text : List ℕ) (parts : Option (Kind × (Bool × ℕ) × ℕ)) (e : parts_of text ≡ parts) (f : FieldRef) → ref_of text parts e ≡ Some f → text ≡ field_text f
+unfolding ref_of field_text
+ref_found text None e f found = none_some found
+ref_found text (Some (kind, (inside, steps), field)) e f found =
+    subst (λ g. text ≡ field_text g) (some_same found) (parts_found text kind (inside, steps) field e).spelled
+
+pub field_found : (text : List ℕ) (f : FieldRef) → field_of text ≡ Some f → text ≡ field_text f
+unfolding field_of
+field_found text f found = ref_found text (parts_of text) refl f found

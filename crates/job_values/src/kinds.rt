@@ -1,3 +1,5 @@
+//! What a value of JSON is: a number, a text, a flag, a list.
+
 ghost use Rattle.std.specs.Prelude.{◌≡◌};
 ghost use Rattle.std.specs.Result.{result_map_both};
 ghost use Rattle.serde_json.specs.View.{view, items_view};

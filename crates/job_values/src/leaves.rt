@@ -1,10 +1,12 @@
-ghost use Rattle.std.specs.Prelude.{◌≡◌, ◌≤◌, ◌<◌, ◌^◌, length, IfOk};
+//! Texts that name a field, and texts that are expressions.
+
+ghost use Rattle.std.specs.Prelude.{◌≡◌, ◌≤◌, ◌<◌, ◌^◌, length, Ok, IfOk};
 ghost use Rattle.query_lang.specs.Expression.{expression_of, AllTerms, VariablesBelow};
 ghost use Rattle.query_lang.specs.Grammar.{InScope};
 ghost use Rattle.job_values.specs.declared.fault.JobWhat.TheVariants as what;
 ghost use Rattle.job_values.specs.Said.{Answers, or_fault};
 ghost use Rattle.job_values.specs.Fields.{field_of};
-ghost use Rattle.job_values.specs.Parsed.{expression, shown};
+ghost use Rattle.job_values.specs.Parsed.{expression, parsed, shown};
 
 use crate::fault::{JobFault, JobWhat, ReadJobFault, fault_at};
 use crate::member::Member;
@@ -34,6 +36,7 @@ pub fn expression_in(
     requires variables { length names.now.vars.items < 2 ^ 32 }
     requires captures { length names.now.captures.items < 2 ^ 32 }
     ensures answer { Answers expression_of (expression member scope (shown names.now.vars.items) (shown names.now.captures.items) text.now) result }
+    ensures parsed { IfOk result (λ e. parsed scope (shown names.now.vars.items) (shown names.now.captures.items) text.now ≡ Ok (expression_of e)) }
     ensures scope { IfOk result (λ e. AllTerms (InScope scope (length names.now.vars.items)
         (length names.now.captures.items)) (expression_of e)) }
     ensures variables { IfOk result (λ e. VariablesBelow (length names.now.vars.items) (expression_of e)) }

@@ -5,6 +5,7 @@
 
 mod fault;
 mod kinds;
+mod law;
 mod leaves;
 mod member;
 mod objects;
@@ -12,6 +13,7 @@ mod wides;
 
 pub use fault::{JobFault, JobWhat, ReadJobFault, fault_at};
 pub use kinds::{flag, list, number, text};
+pub use law::{one_expression, one_field};
 pub use leaves::{expression_in, field_in};
 pub use member::Member;
 pub use objects::{needed, no_stray, object};

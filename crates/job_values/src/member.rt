@@ -1,3 +1,5 @@
+//! The members of a declaration.
+
 /// A member of the declaration of a job, by its row in the table of members. `CapturesName` is
 /// `name` of an object in the list `captures`, and so on.
 #[derive(Clone, Copy, Debug, PartialEq, Eq)]

@@ -1,3 +1,5 @@
+//! Objects: their members, and strays.
+
 ghost use Rattle.std.specs.Prelude.{◌≡◌, map, not, bytes_eq, string_bytes};
 ghost use Rattle.std.specs.List.{list_any};
 ghost use Rattle.std.specs.Result.{result_map_both};
