@@ -8,10 +8,10 @@ use Rattle.ds_base.specs.Outside.{FolderSeen, FolderStays, NamedBytes, SinkSeen}
 use Rattle.summary_spec.specs.declared.job.Job.{Job}
 use Rattle.summary_spec.specs.Declaration.{Declared, items_of}
 use Rattle.summary_spec.specs.Job.{declared_of}
-use Rattle.summary_spec.specs.Words.{is_identifier}
+use Rattle.job_table.specs.Words.{is_identifier}
 use Rattle.summary_spec.proofs.CaptureNames.{captures_new}
-use Rattle.summary_spec.proofs.NewNames.{AllNew}
-use Rattle.summary_spec.proofs.Lengths.{identifier_short}
+use Rattle.job_text.proofs.NewNames.{AllNew}
+use Rattle.job_text.proofs.Lengths.{identifier_short}
 use Rattle.dshark_cli.specs.declared.fault.RunFault.{RunFault}
 use Rattle.dshark_cli.specs.declared.fault.RunFault.TheVariants.{Usage, BadJob, Malformed, ReadFault, WriteFault, OutOfMemory}
 use Rattle.dshark_cli.specs.Captures.{IsFirstMalformed, IsUnreadAt}

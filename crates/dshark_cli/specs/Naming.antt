@@ -3,7 +3,7 @@ use Rattle.std.specs.Prelude.{ℕ, ◌≡◌, List, true, Option, Some, None, Is
 use Rattle.command_words.specs.Words.{Asked, Accepts}
 use Rattle.command_words.specs.Words.Asked.{AskedCount, AskedStack, AskedCheck, AskedCentral, AskedHelp, AskedVersion}
 use Rattle.ds_base.specs.Outside.{FolderSeen}
-use Rattle.summary_spec.specs.Words.{is_identifier}
+use Rattle.job_table.specs.Words.{is_identifier}
 use Rattle.dshark_cli.specs.declared.fault.RunFault.{RunFault}
 use Rattle.dshark_cli.specs.declared.fault.RunFault.TheVariants.{Usage, BadJob, Malformed, ReadFault, WriteFault, OutOfMemory}
 use Rattle.dshark_cli.specs.declared.fault.Stop.{Stop}

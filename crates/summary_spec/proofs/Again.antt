@@ -13,37 +13,30 @@ use Rattle.job_values.specs.declared.member.Member.TheVariants.{Whole, Filter, K
 use Rattle.job_values.specs.Said.{Said, ◌>>=◌, or_fault, only_if}
 use Rattle.job_values.specs.Parsed.{expression}
 use Rattle.job_values.specs.Values.{object, no_stray}
-use Rattle.summary_spec.specs.Canonical.{capture_value, var_value, named, canonical_data, canonical}
+use Rattle.job_text.specs.Parts.{capture_value, var_value, named}
+use Rattle.summary_spec.specs.Canonical.{canonical_data, canonical}
 use Rattle.summary_spec.specs.Declaration.{Declared}
-use Rattle.summary_spec.specs.Lawful.{Counts, IsLawful, longest}
-use Rattle.summary_spec.specs.QueryTable.{query}
+use Rattle.job_table.specs.Limits.{Counts, longest}
+use Rattle.summary_spec.specs.Lawful.{IsLawful}
+use Rattle.job_table.specs.QueryTable.{query}
 use Rattle.summary_spec.specs.Reads.{most_bytes, json, members, declaration, reads}
-use Rattle.summary_spec.specs.Table.{version, vxlan_port, captures, vars, filter_text, filter, key, window, skew, profile, is_free}
-use Rattle.summary_spec.specs.Words.{is_identifier}
-use Rattle.summary_spec.proofs.CapturedAgain.{AllFiles, captures_kept, captures_again}
+use Rattle.job_table.specs.Table.{version, vxlan_port, captures, vars, filter_text, filter, key, window, skew, profile, is_free}
+use Rattle.job_table.specs.Words.{is_identifier}
+use Rattle.job_text.proofs.CapturedAgain.{AllFiles, captures_kept, captures_again}
 use Rattle.summary_spec.proofs.Depths.{json_again}
-use Rattle.summary_spec.proofs.KeyAgain.{AllApart, AllOther, key_kept, numbers_again}
+use Rattle.job_text.proofs.KeyAgain.{AllApart, AllOther, key_kept, numbers_again}
 use Rattle.summary_spec.proofs.Lengths.{short_enough}
-use Rattle.summary_spec.proofs.NewNames.{AllNew}
-use Rattle.summary_spec.proofs.QueryAgain.{Spelled, query_again, query_spelled}
-use Rattle.summary_spec.proofs.Said.{bound, ok_same}
-use Rattle.summary_spec.proofs.VarsAgain.{AllTakes, vars_kept, vars_again, items_many, pairs_many, counted}
+use Rattle.job_text.proofs.NewNames.{AllNew}
+use Rattle.job_text.proofs.QueryAgain.{query_again}
+use Rattle.job_text.proofs.Said.{bound, ok_same}
+use Rattle.job_text.proofs.VarsAgain.{AllTakes, vars_kept, vars_again, items_many, pairs_many, counted}
 
 -- what is known of a job that was read, beside that it is lawful
 pub record IsSaid (d : Declared) : Type 0 where
   pub captures : AllNew is_identifier [] d.captures
   pub files : AllFiles d.files
   pub vars : AllNew is_free [] d.vars
-  pub filter : expression Filter One d.vars d.captures d.filter_text ≡ Ok d.filter
   pub key : AllApart [] d.key
-  pub query : Spelled d.vars d.captures d.query
-
-filter_spelled : (variables points : List (List ℕ)) (d : Data) (f : List ℕ × Expression) → filter variables points d ≡ Ok f
-    → expression Filter One variables points f.0 ≡ Ok f.1
-filter_spelled variables points d f e =
-    let one = bound (filter_text d) _ f e in
-    let two = bound (expression Filter One variables points one.0) _ f one.2 in
-    subst (λ (g : List ℕ × Expression). expression Filter One variables points g.0 ≡ Ok g.1) (ok_same two.2) two.1
 
 said : (v : Data) (d : Declared) → declaration v ≡ Ok d → IsSaid d
 said v d e =
@@ -64,9 +57,7 @@ said v d e =
       captures = kept.0;
       files = kept.1;
       vars = vars_kept v vs.0 vs.1;
-      filter = filter_spelled vs.0.0 cs.0.0 v f.0 f.1;
       key = key_kept vs.0.0 v k.0 k.1;
-      query = query_spelled vs.0.0 cs.0.0 v q.0 q.1;
     })
 
 -- ---- row by row
@@ -87,7 +78,7 @@ module _ (d : Declared) (lawful : IsLawful d) (known : IsSaid d) where
       (vars_again [] d.vars [] d.takes known.vars (takes_all d.takes lawful.alternatives) lawful.takes)
 
   filter_row : filter d.vars d.captures (canonical_data d) ≡ Ok (d.filter_text, d.filter)
-  filter_row = rw (counted 0 1024 (length d.filter_text) (omega arith) lawful.filter.short, known.filter) refl
+  filter_row = rw (counted 0 1024 (length d.filter_text) (omega arith) lawful.filter.short, lawful.filter.gives) refl
 
   others : (most : ℕ) (earlier numbers : List ℕ) → AllApart earlier numbers → All (λ v. v < most) numbers → AllOther most earlier numbers
   others most earlier [] apart all = tt
@@ -109,7 +100,7 @@ module _ (d : Declared) (lawful : IsLawful d) (known : IsSaid d) where
   skew_row = rw (counted 0 longest d.skew (omega arith) lawful.skew) refl
 
   query_row : query d.vars d.captures (canonical_data d) ≡ Ok d.query
-  query_row = query_again d.vars d.captures d.query known.vars known.captures lawful.captures.1 lawful.query known.query
+  query_row = query_again d.vars d.captures d.query known.vars known.captures lawful.captures.1 lawful.query
 
   follows : {A B : Type 0} (m : Said A) (k : A → Said B) (a : A) (b : B) → m ≡ Ok a → k a ≡ Ok b → (m >>= k) ≡ Ok b
   follows m k a b e h = subst (λ n. (n >>= k) ≡ Ok b) (sym e) h

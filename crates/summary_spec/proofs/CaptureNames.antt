@@ -4,10 +4,10 @@ use Rattle.std.specs.Prelude.{Ok}
 use Rattle.std.proofs.lemmas.List.Elements.{All-nil, All-cons}
 use Rattle.summary_spec.specs.Declaration.{Declared}
 use Rattle.summary_spec.specs.Reads.{reads}
-use Rattle.summary_spec.specs.Words.{is_identifier}
+use Rattle.job_table.specs.Words.{is_identifier}
 use Rattle.summary_spec.proofs.Again.{json_said}
-use Rattle.summary_spec.proofs.Lengths.{identifier_short}
-use Rattle.summary_spec.proofs.NewNames.{AllNew}
+use Rattle.job_text.proofs.Lengths.{identifier_short}
+use Rattle.job_text.proofs.NewNames.{AllNew}
 
 -- each is an identifier, and none of those before it
 pub captures_new : (bytes : List ℕ) (d : Declared) → reads bytes ≡ Ok d → AllNew is_identifier [] d.captures

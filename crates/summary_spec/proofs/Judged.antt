@@ -14,9 +14,9 @@ use Rattle.rewrite_judge.specs.declared.rule.How.{How}
 use Rattle.rewrite_judge.specs.declared.rule.How.TheVariants as how
 use Rattle.rewrite_judge.specs.declared.rule.Rule.{Rule}
 use Rattle.rewrite_judge.proofs.Breaks.{rewrite_verdict-is, rewrite_only}
-use Rattle.summary_spec.specs.Declaration.{items_of, manner_of, ruling_of, Rewrites}
+use Rattle.job_table.specs.Question.{items_of, manner_of, ruling_of, Rewrites}
 use Rattle.summary_spec.specs.Judge.{how_of, rule_of}
-use Rattle.summary_spec.specs.Lawful.{IsQuestion, IsRuling}
+use Rattle.job_table.specs.Limits.{IsQuestion, IsRuling}
 
 -- ---- each member has a value for each variable of the rules
 
@@ -39,8 +39,8 @@ each_below n (rule ∷ rules) members lawful values =
     (below n rule.var members (All-head (IsRuling n) (ruling_of rule) (map ruling_of rules) lawful).0 values)
     (each_below n rules members (All-tail (IsRuling n) (ruling_of rule) (map ruling_of rules) lawful) values)
 
-pub rules_below : (names : List (Items ℕ)) (captures from to : ℕ) (rules : List Rule) (members : List Summary)
-    → IsQuestion (length (items_of names)) captures (Rewrites from to (map ruling_of rules))
+pub rules_below : (names : List (Items ℕ)) (captures : List (List ℕ)) (from to : ℕ) (rules : List Rule) (members : List Summary)
+    → IsQuestion (items_of names) captures (Rewrites from to (map ruling_of rules))
     → Valued (length names) members → All (λ rule. All (λ member. rule.var < length member.vals) members) rules
 rules_below names captures from to rules members lawful values =
     each_below (length (items_of names)) rules members lawful.3 (by_names names members values)

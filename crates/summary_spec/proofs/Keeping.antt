@@ -1,38 +1,47 @@
 -- What the parts of a job keep is what the job keeps.
-use Rattle.std.proofs.Common.{◌≡◌, ℕ, Bool, ◌<◌, ◌≤◌, ◌^◌, List, length, sym, ◌∙◌, All}
+use Rattle.std.proofs.Common.{◌≡◌, ℕ, ◌<◌, ◌≤◌, ◌^◌, List, length, sym, ◌∙◌, All}
 use Rattle.std.proofs.lemmas.List.{length-map}
 use Rattle.std.proofs.lemmas.List.Elements.{All-map}
 use Rattle.ds_base.specs.Items.{Items}
 use Rattle.field_table.specs.declared.field_ref.FieldRef.{FieldRef}
 use Rattle.query_lang.specs.Expression.{expression_of}
-use Rattle.query_lang.specs.declared.expression.Expr.{Expr}
-use Rattle.query_lang.specs.declared.names.Names.{Names}
 use Rattle.query_lang.specs.declared.names.Scope.TheVariants.{One}
-use Rattle.summary_spec.specs.declared.query.Query.{Query}
-use Rattle.summary_spec.specs.Declaration.{declared, items_of, question_of}
-use Rattle.summary_spec.specs.Lawful.{longest, Counts, IsParsed, IsQuestion, IsLawful}
+use Rattle.job_values.specs.Parsed.{shown}
+use Rattle.job_table.specs.Question.{items_of, question_of}
+use Rattle.job_table.specs.Limits.{longest, Counts, IsParsed, IsQuestion}
+use Rattle.summary_spec.specs.Declaration.{Parts, declared}
+use Rattle.summary_spec.specs.Lawful.{IsLawful}
 
 many : {T : Type 0} (lists : List (Items T)) → length (items_of lists) ≡ length lists
 many {T} lists = length-map lists (λ (list : Items T). list.items)
 
-pub lawful : (port : ℕ) (names : Names) (files : Items (Items ℕ)) (takes : Items (Items FieldRef)) (filter_text : Items ℕ) (filter : Expr) (key : Items ℕ) (window skew : ℕ) (profile : Bool) (query : Query)
-    → (1 ≤ port) × (port < 2 ^ 16) → Counts 1 64 names.captures.items → length files.items ≡ length names.captures.items
-    → Counts 1 16 names.vars.items → length takes.items ≡ length names.vars.items → All (λ take. Counts 1 4 take.items) takes.items
-    → IsParsed One (length names.vars.items) (length names.captures.items) filter_text.items (expression_of filter)
-    → Counts 1 16 key.items → All (λ v. v < length names.vars.items) key.items → window ≤ longest → skew ≤ longest
-    → IsQuestion (length names.vars.items) (length names.captures.items) (question_of query)
-    → IsLawful (declared port names files takes filter_text filter key window skew profile query)
-lawful port names files takes filter_text filter key window skew profile query limits captures_count files_count vars_count takes_count alternatives parsed key_count key_within window_most skew_most question = record {
-  port = limits;
-  captures = rw (many names.captures.items) captures_count;
-  files = many files.items ∙ files_count ∙ sym (many names.captures.items);
-  vars = rw (many names.vars.items) vars_count;
-  takes = many takes.items ∙ takes_count ∙ sym (many names.vars.items);
-  alternatives = All-map (λ (fields : List FieldRef). Counts 1 4 fields) (λ (take : Items FieldRef). take.items) takes.items alternatives;
-  filter = rw (many names.vars.items, many names.captures.items) parsed;
-  key = key_count;
-  key_variables = rw (many names.vars.items) key_within;
-  window = window_most;
-  skew = skew_most;
-  query = rw (many names.vars.items, many names.captures.items) question;
+-- the limits of the parts of a job
+pub record InLimits (p : Parts) : Type 0 where
+  pub port : (1 ≤ p.port) × (p.port < 2 ^ 16)
+  pub captures : Counts 1 64 p.names.captures.items
+  pub files : length p.files.items ≡ length p.names.captures.items
+  pub vars : Counts 1 16 p.names.vars.items
+  pub takes : length p.takes.items ≡ length p.names.vars.items
+  pub alternatives : All (λ take. Counts 1 4 take.items) p.takes.items
+  pub filter : IsParsed One (shown p.names.vars.items) (shown p.names.captures.items) p.filter_text.items (expression_of p.filter)
+  pub key : Counts 1 16 p.key.items
+  pub key_variables : All (λ v. v < length p.names.vars.items) p.key.items
+  pub window : p.window ≤ longest
+  pub skew : p.skew ≤ longest
+  pub query : IsQuestion (shown p.names.vars.items) (shown p.names.captures.items) (question_of p.query)
+
+pub lawful : (p : Parts) → InLimits p → IsLawful (declared p)
+lawful p in_limits = record {
+  port = in_limits.port;
+  captures = rw (many p.names.captures.items) in_limits.captures;
+  files = many p.files.items ∙ in_limits.files ∙ sym (many p.names.captures.items);
+  vars = rw (many p.names.vars.items) in_limits.vars;
+  takes = many p.takes.items ∙ in_limits.takes ∙ sym (many p.names.vars.items);
+  alternatives = All-map (λ (fields : List FieldRef). Counts 1 4 fields) (λ (take : Items FieldRef). take.items) p.takes.items in_limits.alternatives;
+  filter = in_limits.filter;
+  key = in_limits.key;
+  key_variables = rw (many p.names.vars.items) in_limits.key_variables;
+  window = in_limits.window;
+  skew = in_limits.skew;
+  query = in_limits.query;
 }

@@ -1,8 +1,10 @@
 -- The job of the command `count`.
 use Rattle.std.specs.Prelude.{ℕ, List, [], ◌∷◌, false, codes}
+use Rattle.ds_base.specs.Times.{hour}
 use Rattle.field_table.specs.declared.field_ref.FieldRef.{FieldRef}
 use Rattle.query_lang.specs.Expression.{Literal}
-use Rattle.summary_spec.specs.Declaration.{Declared, Everything}
+use Rattle.summary_spec.specs.Declaration.{Declared}
+use Rattle.job_table.specs.Question.{Everything}
 
 -- One capture `c` in this file, one variable `v` that is the field and the key, and every packet that
 -- has the field: the copies within the window are gathered, and nothing is asked of them. VXLAN has its
@@ -18,7 +20,7 @@ count_job field window file = record {
   filter = Literal 1;
   key = 0 ∷ [];
   window = window;
-  skew = 3600000000000;
+  skew = hour;
   profile = false;
   query = Everything;
 }

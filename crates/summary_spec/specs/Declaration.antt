@@ -1,36 +1,12 @@
 -- What a job declares, without where it lies in memory.
-use Rattle.std.specs.Prelude.{ℕ, Bool, List, map}
+use Rattle.std.specs.Prelude.{ℕ, Bool, List}
 use Rattle.ds_base.specs.Items.{Items}
 use Rattle.field_table.specs.declared.field_ref.FieldRef.{FieldRef}
-use Rattle.path_judges.specs.declared.pattern.Step.{Step}
 use Rattle.query_lang.specs.Expression.{Expression, expression_of}
 use Rattle.query_lang.specs.declared.expression.Expr.{Expr}
 use Rattle.query_lang.specs.declared.names.Names.{Names}
-use Rattle.rewrite_judge.specs.declared.rule.Rule.{Rule}
-use Rattle.rewrite_judge.specs.declared.rule.How.{How}
-use Rattle.rewrite_judge.specs.declared.rule.How.TheVariants as how
-use Rattle.summary_spec.specs.declared.query.Query.{Query}
-use Rattle.summary_spec.specs.declared.query.Query.TheVariants as query
-
--- how the value before a rewrite is to be to the value after
-pub data Manner : Type 0 where
-  Same : Manner
-  Less : ℕ → Manner
-  Table : List (ℕ × ℕ) → Manner
-
--- a rule on a variable
-pub record Ruling : Type 0 where
-  pub var : ℕ
-  pub how : Manner
-
--- what is asked of each group
-pub data Question : Type 0 where
-  Everything : Question
-  Loops : ℕ → Question
-  Drops : ℕ → Question
-  Paths : List (List Step) → Question
-  Rewrites : ℕ → ℕ → List Ruling → Question
-  Tests : List ℕ → Expression → Question
+use Rattle.job_table.specs.declared.kinds.Query.{Query}
+pub use Rattle.job_table.specs.Question.{Manner, Same, Less, Table, Ruling, Question, Everything, Loops, Drops, Paths, Rewrites, Tests, items_of, ruling_of, question_of}
 
 -- what a job declares: names and texts are their bytes, variables and captures their numbers
 pub record Declared : Type 0 where
@@ -47,40 +23,33 @@ pub record Declared : Type 0 where
   pub profile : Bool
   pub query : Question
 
--- the items of each list of a list
-abbrev pub items_of : {T : Type 0} → List (Items T) → List (List T)
-items_of lists = map (λ list. list.items) lists
+-- the parts of a job as they lie in memory
+pub record Parts : Type 0 where
+  pub port : ℕ
+  pub names : Names
+  pub files : Items (Items ℕ)
+  pub takes : Items (Items FieldRef)
+  pub filter_text : Items ℕ
+  pub filter : Expr
+  pub key : Items ℕ
+  pub window : ℕ
+  pub skew : ℕ
+  pub profile : Bool
+  pub query : Query
 
-abbrev pub manner_of : How → Manner
-manner_of how.Same = Same
-manner_of (how.Less by) = Less by
-manner_of (how.Table rows) = Table rows.items
-
-abbrev pub ruling_of : Rule → Ruling
-ruling_of rule = record { var = rule.var; how = manner_of rule.how }
-
--- what a query shows
-abbrev pub question_of : Query → Question
-question_of query.All = Everything
-question_of (query.Loop hop) = Loops hop
-question_of (query.Exits set) = Drops set
-question_of (query.Path allow) = Paths allow.items
-question_of (query.Rewrite from to rules) = Rewrites from to (map ruling_of rules.items)
-question_of (query.Test text expr) = Tests text.items (expression_of expr)
-
--- what the parts of a job show
-abbrev pub declared : ℕ → Names → Items (Items ℕ) → Items (Items FieldRef) → Items ℕ → Expr → Items ℕ → ℕ → ℕ → Bool → Query → Declared
-declared port names files takes filter_text filter key window skew profile query = record {
-  port = port;
-  vars = items_of names.vars.items;
-  captures = items_of names.captures.items;
-  files = items_of files.items;
-  takes = items_of takes.items;
-  filter_text = filter_text.items;
-  filter = expression_of filter;
-  key = key.items;
-  window = window;
-  skew = skew;
-  profile = profile;
-  query = question_of query;
+-- what they declare
+abbrev pub declared : Parts → Declared
+declared parts = record {
+  port = parts.port;
+  vars = items_of parts.names.vars.items;
+  captures = items_of parts.names.captures.items;
+  files = items_of parts.files.items;
+  takes = items_of parts.takes.items;
+  filter_text = parts.filter_text.items;
+  filter = expression_of parts.filter;
+  key = parts.key.items;
+  window = parts.window;
+  skew = parts.skew;
+  profile = parts.profile;
+  query = question_of parts.query;
 }

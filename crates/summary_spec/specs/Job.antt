@@ -1,7 +1,23 @@
+-- What a job shows.
 use Rattle.summary_spec.specs.declared.job.Job.{Job}
-use Rattle.summary_spec.specs.Declaration.{Declared, declared}
+use Rattle.summary_spec.specs.Declaration.{Declared, Parts, declared}
 
--- what a job shows
+-- its parts
+abbrev pub parts_of : Job → Parts
+parts_of job = record {
+  port = job.port;
+  names = job.names;
+  files = job.files;
+  takes = job.takes;
+  filter_text = job.filter_text;
+  filter = job.filter;
+  key = job.key;
+  window = job.window;
+  skew = job.skew;
+  profile = job.profile;
+  query = job.query;
+}
+
+-- what it declares
 abbrev pub declared_of : Job → Declared
-declared_of job =
-    declared job.port job.names job.files job.takes job.filter_text job.filter job.key job.window job.skew job.profile job.query
+declared_of job = declared (parts_of job)

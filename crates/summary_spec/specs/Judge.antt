@@ -12,7 +12,7 @@ use Rattle.rewrite_judge.specs.Rewrite.{IsRewriteVerdict, rewrite_verdict}
 use Rattle.rewrite_judge.specs.declared.rule.How.{How}
 use Rattle.rewrite_judge.specs.declared.rule.How.TheVariants as how
 use Rattle.rewrite_judge.specs.declared.rule.Rule.{Rule}
-use Rattle.summary_spec.specs.Declaration.{Manner, Same, Less, Table, Ruling, Question, Everything, Loops, Drops, Paths, Rewrites, Tests}
+use Rattle.job_table.specs.Question.{Manner, Same, Less, Table, Ruling, Question, Everything, Loops, Drops, Paths, Rewrites, Tests}
 
 -- a rule, without room in memory
 abbrev pub how_of : Manner → How

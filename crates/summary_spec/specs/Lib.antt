@@ -4,8 +4,5 @@ pub mod Job
 pub mod Judge
 pub mod CountJob
 pub mod Propositions
-pub mod Words
-pub mod Table
-pub mod QueryTable
 pub mod Reads
 pub mod Canonical

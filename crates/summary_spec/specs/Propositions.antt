@@ -1,17 +1,23 @@
 -- Lawful-prop: a fact of being lawful has one proof, as a field of a struct wants it.
-use Rattle.std.specs.Prelude.{ℕ}
+use Rattle.std.specs.Prelude.{ℕ, ◌≡◌, List, Ok}
 use Rattle.std.specs.Coded.{×_prop, Unit-prop, le_prop}
 use Rattle.std.proofs.Math.Nat.{ℕ_set}
+use Rattle.std.proofs.Props.{props}
+use Rattle.query_tokens.specs.declared.token.Operator.{Operator}
+use Rattle.query_syntax.specs.declared.fault.QueryFault.{QueryFault}
+use Rattle.job_values.specs.Parsed.{parsed}
 use Rattle.path_judges.specs.declared.pattern.Step.{Step}
 use Rattle.path_judges.specs.declared.pattern.Step.TheVariants.{Point, One as AnyOne, Many}
 use Rattle.query_lang.specs.declared.expression.Term.{Term}
 use Rattle.query_lang.specs.declared.expression.Term.TheVariants as term
 use Rattle.query_lang.specs.declared.names.Scope.{Scope}
 use Rattle.query_lang.specs.declared.names.Scope.TheVariants.{One, Group}
-use Rattle.query_lang.specs.Expression.{Expression, Literal, Reading, Negation, Operation, AllTerms, VariableBelow}
+use Rattle.query_lang.specs.Expression.{Expression, Expression-set, Literal, Reading, Negation, Operation, AllTerms, VariableBelow}
 use Rattle.query_lang.specs.Grammar.{InScope}
-use Rattle.summary_spec.specs.Declaration.{Declared, Question, Everything, Loops, Drops, Paths, Rewrites, Tests, Manner, Same, Less, Table}
-use Rattle.summary_spec.specs.Lawful.{StepBelow, IsManner, IsQuestion, IsLawful}
+use Rattle.summary_spec.specs.Declaration.{Declared}
+use Rattle.job_table.specs.Question.{Question, Everything, Loops, Drops, Paths, Rewrites, Tests, Manner, Same, Less, Table}
+use Rattle.job_table.specs.Limits.{StepBelow, IsManner, IsQuestion}
+use Rattle.summary_spec.specs.Lawful.{IsLawful}
 
 no_prop : IsProp ⊥
 no_prop a b = absurd a
@@ -72,13 +78,28 @@ manner_prop Same = Unit-prop
 manner_prop (Less by) = le_prop
 manner_prop (Table rows) = Prim.hlevel (le_prop, ×_prop)
 
-question_prop : (vars captures : ℕ) (q : Question) → IsProp (IsQuestion vars captures q)
+term_set : IsSet Term
+term_set = Prim.hlevel (props, ℕ_set)
+
+operator_set : IsSet Operator
+operator_set = Prim.hlevel props
+
+expression_set : IsSet Expression
+expression_set = Expression-set ℕ_set term_set operator_set
+
+fault_set : IsSet QueryFault
+fault_set = Prim.hlevel (props, ℕ_set)
+
+gives_prop : (scope : Scope) (vars captures : List (List ℕ)) (text : List ℕ) (e : Expression) → IsProp (parsed scope vars captures text ≡ Ok e)
+gives_prop scope vars captures text e = Prim.hlevel (props, expression_set, fault_set)
+
+question_prop : (vars captures : List (List ℕ)) (q : Question) → IsProp (IsQuestion vars captures q)
 question_prop vars captures Everything = Unit-prop
 question_prop vars captures (Loops hop) = le_prop
 question_prop vars captures (Drops exits) = ×_prop le_prop le_prop
 question_prop vars captures (Paths allow) = Prim.hlevel (le_prop, step_prop)
 question_prop vars captures (Rewrites from to rules) = Prim.hlevel (le_prop, manner_prop)
-question_prop vars captures (Tests text e) = Prim.hlevel (le_prop, terms_prop, variable_prop, scope_prop)
+question_prop vars captures (Tests text e) = Prim.hlevel (le_prop, gives_prop, terms_prop, variable_prop, scope_prop)
 
 pub Lawful-prop : (d : Declared) → IsProp (IsLawful d)
-Lawful-prop d = Prim.hlevel (ℕ_set, le_prop, terms_prop, variable_prop, scope_prop, question_prop)
+Lawful-prop d = Prim.hlevel (ℕ_set, le_prop, gives_prop, terms_prop, variable_prop, scope_prop, question_prop)

@@ -8,8 +8,8 @@ use Rattle.job_values.specs.declared.fault.JobWhat.TheVariants.{NotJson, Limit}
 use Rattle.job_values.specs.Said.{Said, ◌>>=◌, or_fault, only_if}
 use Rattle.job_values.specs.Values.{object, no_stray}
 use Rattle.summary_spec.specs.Declaration.{Declared}
-use Rattle.summary_spec.specs.Table.{version, vxlan_port, captures, vars, filter, key, window, skew, profile}
-use Rattle.summary_spec.specs.QueryTable.{query}
+use Rattle.job_table.specs.Table.{version, vxlan_port, captures, vars, filter, key, window, skew, profile}
+use Rattle.job_table.specs.QueryTable.{query}
 
 -- at most so many bytes
 abbrev pub most_bytes : ℕ

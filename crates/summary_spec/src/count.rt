@@ -1,18 +1,19 @@
+//! The job of the command `count`.
+
 ghost use Rattle.std.specs.Prelude.{◌≡◌, ◌≤◌, [], ◌∷◌, IfOk};
 ghost use Rattle.summary_spec.specs.CountJob.{count_job};
 ghost use Rattle.summary_spec.specs.Job.{declared_of};
-ghost use Rattle.summary_spec.specs.Lawful.{longest};
+ghost use Rattle.job_table.specs.Limits.{longest};
 
-use crate::job::{FieldList, Job, TakeList};
-use crate::query::Query;
-use crate::rules::{copied, put};
-use crate::scalars::LONGEST;
-use ds_base::{ItemList, KeyList, NameList, OutOfMemory};
+use crate::job::Job;
+use ds_base::{HOUR, ItemList, KeyList, NameList, OutOfMemory};
 use field_table::FieldRef;
+use job_table::{FieldList, Query, TakeList, copied, put};
 use query_lang::{Expr, Names};
 use std::alloc::Global;
 
 impl Job {
+    #[tactic(auto, using(crate::proofs::CountText::one_is))]
     /// The job with one capture `c` of this file and one variable `v` of this field, which is the
     /// key. The window is in nanoseconds, and at most an hour; the skew is an hour. Every record
     /// passes, nothing is asked, and no delays are reported.
@@ -41,7 +42,7 @@ impl Job {
             filter: Expr::Number(1),
             key,
             window,
-            skew: LONGEST,
+            skew: HOUR,
             profile: false,
             query: Query::All,
         })

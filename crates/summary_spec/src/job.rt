@@ -1,20 +1,16 @@
+//! The job: its parts, and that it is lawful.
+
 ghost use Rattle.summary_spec.specs.Declaration.{declared};
 ghost use Rattle.summary_spec.specs.Lawful.{IsLawful};
 ghost use Rattle.summary_spec.specs.Propositions.{Lawful-prop};
 
-use crate::query::Query;
-use ds_base::{ItemList, KeyList, NameList, Text};
-use field_table::FieldRef;
+use ds_base::{KeyList, NameList, Text};
+use job_table::{Query, TakeList};
 use query_lang::{Expr, Names};
 
-/// The alternatives of one variable: 1 to 4 fields, of which the first that a packet has counts.
-pub type FieldList = ItemList<FieldRef>;
-
-/// The alternatives of each variable.
-pub type TakeList = ItemList<FieldList>;
-
 /// A job. Whoever holds one knows that it is lawful: its numbers of variables and captures are in
-/// range, its limits are kept, and its expressions were parsed with its names.
+/// range, its limits are kept, and its filter and its test are what their texts are parsed to, with
+/// its names.
 #[derive(Drop)]
 pub struct Job {
     /// The UDP port of VXLAN.
@@ -31,13 +27,37 @@ pub struct Job {
     pub filter: Expr,
     /// The numbers of the variables of the key.
     pub key: KeyList,
-    /// How far behind a group's first its members may be, in nanoseconds.
+    /// How long after a group's first its members may be, in nanoseconds.
     pub window: u64,
-    /// How far behind the newest record of its capture a record may be, in nanoseconds.
+    /// How long before the newest record of its capture a record may be, in nanoseconds.
     pub skew: u64,
     /// Whether the delays between captures are reported.
     pub profile: bool,
     /// What is asked of each group.
     pub query: Query,
-    pub ghost lawful: { IsLawful (declared port names files takes filter_text filter key window skew profile query) } by { Lawful-prop (declared port names files takes filter_text filter key window skew profile query) },
+    pub ghost lawful: { IsLawful (declared (record {
+      port = port;
+      names = names;
+      files = files;
+      takes = takes;
+      filter_text = filter_text;
+      filter = filter;
+      key = key;
+      window = window;
+      skew = skew;
+      profile = profile;
+      query = query;
+    })) } by { Lawful-prop (declared (record {
+      port = port;
+      names = names;
+      files = files;
+      takes = takes;
+      filter_text = filter_text;
+      filter = filter;
+      key = key;
+      window = window;
+      skew = skew;
+      profile = profile;
+      query = query;
+    })) },
 }

@@ -1,11 +1,13 @@
+//! What a job's query says of a group.
+
 ghost use Rattle.std.specs.Prelude.{◌≡◌, ◌<◌, length, All};
 ghost use Rattle.ds_base.specs.declared.verdict.Verdict.{Verdict};
 ghost use Rattle.summary_spec.specs.Job.{declared_of};
 ghost use Rattle.summary_spec.specs.Judge.{IsVerdict, verdict_on};
 
 use crate::job::Job;
-use crate::query::Query;
 use ds_base::{Group, Verdict};
+use job_table::Query;
 use path_judges::{judge_drop, judge_loop, judge_path};
 use query_lang::eval_group;
 use rewrite_judge::judge_rewrite;

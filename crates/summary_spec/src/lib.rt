@@ -3,27 +3,19 @@
 //! `Job::read` tells the first fault of a declaration in its place.
 #![tactic(auto)]
 
-mod captures;
 mod count;
-mod filters;
 mod job;
 mod judge;
-mod kinds;
-mod numbers;
-mod patterns;
 mod print;
-mod print_query;
-mod queries;
-mod query;
 mod reading;
-mod rewrites;
-mod rules;
-mod scalars;
-mod vars;
 
-pub use job::{FieldList, Job, TakeList};
+pub use job::Job;
+pub use job_table::{FieldList, Query, TakeList};
 pub use job_values::{JobFault, JobWhat, Member, ReadJobFault};
-pub use query::Query;
 
+#[cfg(test)]
+mod fault_tests;
+#[cfg(test)]
+mod judge_tests;
 #[cfg(test)]
 mod tests;

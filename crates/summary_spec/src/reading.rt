@@ -1,3 +1,5 @@
+//! A declaration, read from its bytes.
+
 ghost use Rattle.std.specs.Prelude.{◌≡◌, ◌≤◌, IfOk, IsUtf8, length};
 ghost use Rattle.serde_json.specs.View.{view};
 ghost use Rattle.job_values.specs.Said.{Answers, or_fault};
@@ -6,13 +8,8 @@ ghost use Rattle.job_values.specs.declared.fault.JobWhat.TheVariants as what;
 ghost use Rattle.summary_spec.specs.Job.{declared_of};
 ghost use Rattle.summary_spec.specs.Reads.{declaration, json, most_bytes, reads};
 
-use crate::captures::captures;
-use crate::filters::filter;
 use crate::job::Job;
-use crate::numbers::key;
-use crate::queries::query;
-use crate::scalars::{profile, skew, version, vxlan_port, window};
-use crate::vars::vars;
+use job_table::{captures, filter, key, profile, query, skew, vars, version, vxlan_port, window};
 use job_values::{JobWhat, Member, ReadJobFault, fault_at, no_stray, object};
 use query_lang::Names;
 use serde_json::Value;

@@ -1,0 +1,7 @@
+use Rattle.std.proofs.Common.{◌≡◌, ◌+◌, drop}
+use Rattle.std.specs.List.{position_or_len}
+use Rattle.job_table.specs.Words.{is_blank}
+use Rattle.job_table.proofs.patterns.word_end.Given as goal
+
+abbrev pub invariant-loop-i : goal.invariant-loop-i
+invariant-loop-i l = position_or_len is_blank l.bytes ≡ l.i + position_or_len is_blank (drop l.i l.bytes)

@@ -1,0 +1,13 @@
+pub mod Printed
+pub mod Floats
+pub mod Depths
+pub mod Said
+pub mod NewNames
+pub mod CapturedAgain
+pub mod VarsAgain
+pub mod KeyAgain
+pub mod ExitsAgain
+pub mod WidesAgain
+pub mod PatternsAgain
+pub mod QueryAgain
+pub mod Lengths

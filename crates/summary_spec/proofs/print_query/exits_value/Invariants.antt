@@ -1,9 +1,0 @@
-use Rattle.std.proofs.Common.{◌≡◌, ◌++◌, map, drop}
-use Rattle.serde_json.specs.View.{view}
-use Rattle.job_values.specs.Parsed.{shown}
-use Rattle.serde_json.specs.Data.{string}
-use Rattle.summary_spec.specs.Canonical.{set_names}
-use Rattle.summary_spec.proofs.print_query.exits_value.Given as goal
-
-abbrev pub invariant-loop-i : goal.invariant-loop-i
-invariant-loop-i l = map view l.list.items ++ map string (set_names l.exits l.i (shown (drop l.i l.captures.items))) ≡ map string (set_names l.exits 0 (shown l.captures.items))

@@ -1,7 +1,0 @@
-use Rattle.std.proofs.Common.{◌≡◌, ◌++◌, map, drop}
-use Rattle.serde_json.specs.View.{view}
-use Rattle.summary_spec.specs.Canonical.{row_value}
-use Rattle.summary_spec.proofs.print_query.rows_value.Given as goal
-
-abbrev pub invariant-loop-i : goal.invariant-loop-i
-invariant-loop-i l = map view l.list.items ++ map row_value (drop l.i l.rows.items) ≡ map row_value l.rows.items
