@@ -6,3 +6,4 @@ pub mod Lengths
 pub mod CaptureNames
 pub mod Judged
 pub mod CountText
+pub mod Verdicts

@@ -6,12 +6,14 @@
 mod count;
 mod job;
 mod judge;
+mod law;
 mod print;
 mod reading;
 
 pub use job::Job;
 pub use job_table::{FieldList, Query, TakeList};
 pub use job_values::{JobFault, JobWhat, Member, ReadJobFault};
+pub use law::one_verdict;
 
 #[cfg(test)]
 mod fault_tests;
