@@ -52,6 +52,14 @@ impl Marks {
         }
     }
 
+    /// The mark of a capture. None exactly when it has ended.
+    pub fn get(&self, capture: u32) -> Option<u64>
+        requires { capture < length self.now }
+        ensures { result ≡ get_or self.now capture None }
+    {
+        self.marks.get(capture)
+    }
+
     /// Raises the mark of a capture to `mark`, or leaves it where it is not below that. The mark of a
     /// capture that has ended is not raised.
     pub fn raise(&mut self, capture: u32, mark: u64)
@@ -78,14 +86,6 @@ impl Marks {
         ensures value { result ≡ least_mark self.now }
     {
         self.least
-    }
-
-    /// The mark of a capture. None exactly when it has ended.
-    fn get(&self, capture: u32) -> Option<u64>
-        requires { capture < length self.now }
-        ensures { result ≡ get_or self.now capture None }
-    {
-        self.marks.get(capture)
     }
 
     /// Puts a mark that is not below the capture's own in its place. All marks are looked at only

@@ -2,24 +2,25 @@
 use Rattle.std.proofs.Common.{ℕ, Bool, true, false, List, [], ◌∷◌, ◌++◌, ◌≡◌, ◌≤◌, ◌<◌, ◌+◌, ◌-◌, Option, Some, None, refl, sym, ap, subst, ◌∙◌, arith, ⊎_elim, length, map}
 use Rattle.std.specs.List.{AllByRecursion, list_any}
 use Rattle.std.proofs.lemmas.Bool.{cases_Bool, both_ways, and_parts, leb-true, ltb-false}
-use Rattle.std.proofs.lemmas.List.{append_assoc, append-nil}
+use Rattle.std.proofs.lemmas.List.{append_assoc, append-nil, length-append}
 use Rattle.ds_base.specs.Copies.{Copies}
 use Rattle.ds_base.specs.Fronts.{upto, onward}
 use Rattle.ds_base.specs.Order.{PrecedesAll, InStampOrder}
+use Rattle.ds_base.specs.declared.stamp.Stamp.{Stamp}
 use Rattle.ds_base.specs.declared.summary.Summary.{Summary}
 use Rattle.watermarks.specs.Least.{least_mark, under}
 use Rattle.watermarks.proofs.Lesser.{under_earlier, allowed_late}
 use Rattle.window_grouper.specs.Closed.{IsBound, is_closed, ends_by, AreLate}
 use Rattle.window_grouper.specs.Cut.{firsts}
 use Rattle.window_grouper.specs.Groups.{groups_of, members_of, same_key, IsGroup}
-use Rattle.window_grouper.specs.Grouping.{Grouping, is_past, MayCome, placed_all, marked, with_summary, with_group, StandsFor, IsSettled, NoneClosed, ClosedInFront, BeginsFrom, OthersFrom}
+use Rattle.window_grouper.specs.Grouping.{Grouping, is_past, MayCome, placed_all, marked, with_summary, with_group, StandsFor, IsSettled, NoneClosed, ClosedInFront, HeldOnce, StampsApart, BeginsFrom, OthersFrom}
 use Rattle.window_grouper.specs.Placing.{members_take, takes, single, grown, placed}
-use Rattle.window_grouper.specs.Sorted.{StampsDiffer, insert_by_stamp, by_stamp}
+use Rattle.window_grouper.specs.Sorted.{DiffersFromAll, StampsDiffer, insert_by_stamp, by_stamp}
 use Rattle.window_grouper.proofs.Covers.{precedes_time, groups_of-IsGroups}
 use Rattle.window_grouper.proofs.GivenOut.{placed-append, all_behind, ordered_held}
-use Rattle.window_grouper.proofs.Insertion.{by_stamp-push, in_order-by_stamp}
+use Rattle.window_grouper.proofs.Insertion.{by_stamp-push, in_order-by_stamp, differ-parts, differs-by_stamp, length-by_stamp}
 use Rattle.window_grouper.proofs.Later.{closed_stay, fails_later}
-use Rattle.window_grouper.proofs.Members.{all_grouped}
+use Rattle.window_grouper.proofs.Members.{all_grouped, members_in-given}
 use Rattle.window_grouper.proofs.Pass.{groups_of-push}
 use Rattle.window_grouper.proofs.Passing.{at_time, parted_list, upto_split, onward_split, onward_late, upto_late, upto-insert, onward-insert, upto_more}
 
@@ -298,3 +299,31 @@ others_from now m window added given later least h settled late differ =
       groups,
       placed_all_from window m rest now.held (subst (λ (o : Option ℕ). AreLate (under o) rest) least rest_late) (held_from window m now.held none),
     )
+
+-- ---- what is held
+
+pub held_once : (now : Grouping) (window : ℕ) (added : List Summary) (given : List Copies) → HeldOnce now window added given
+held_once now window added given h =
+    let p = at_time (is_past now.marks) in
+    let l = by_stamp added in
+    let ordered : InStampOrder (upto p l) = ordered_upto p l (in_order-by_stamp added h.differ) in
+    let placed_here = members_in-given window (upto p l) given now.held ordered h.groups in
+    let wait : length (onward p l) ≡ length now.waiting = ap length h.later in
+    let parts : length (upto p l ++ onward p l) ≡ length (upto p l) + length (onward p l) = length-append (upto p l) (onward p l) in
+    let whole : length (upto p l ++ onward p l) ≡ length l = ap length (parted_list p l) in
+    let all = length-by_stamp added in
+    omega (arith, placed_here, wait, parts, whole, all)
+
+pub differs_onward : (at : Stamp) (p : Summary → Bool) (l : List Summary) → DiffersFromAll at l → DiffersFromAll at (onward p l)
+differs_onward at p [] h = tt
+differs_onward at p (s ∷ l) h =
+    ⊎_elim
+    (λ (yes : p s ≡ true). rw yes (differs_onward at p l h.1))
+    (λ (no : p s ≡ false). rw no h)
+    (cases_Bool (p s))
+
+pub stamps_apart : (now : Grouping) (window : ℕ) (added : List Summary) (given : List Copies) (s : Summary) → StampsApart now window added given s
+stamps_apart now window added given s h differ =
+    let parts = differ-parts added s differ in
+    subst (DiffersFromAll s.at) h.later
+    (differs_onward s.at (at_time (is_past now.marks)) (by_stamp added) (differs-by_stamp s.at added parts.0 parts.1))

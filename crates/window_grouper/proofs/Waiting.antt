@@ -1,10 +1,12 @@
 -- The fields of a grouper, where a summary comes to wait, is placed, or a group is given out.
-use Rattle.std.proofs.Common.{ℕ, Bool, true, false, List, [], ◌∷◌, ◌++◌, ◌≡◌, ◌≤◌, ◌<◌, ◌+◌, Option, Some, None, refl, sym, ap, subst, ◌∙◌, arith, ⊎_elim, length, map}
-use Rattle.std.specs.Prelude.{slice_get, set, get_or, IfSome, IfNone, IsSome, ◌↔◌}
-use Rattle.std.specs.BTreeMap.{insert_entry}
+use Rattle.std.proofs.Common.{ℕ, Bool, true, false, List, [], ◌∷◌, ◌++◌, ◌≡◌, ◌≤◌, ◌<◌, ◌+◌, Option, Some, None, refl, sym, ap, subst, ◌∙◌, arith, ⊎_elim, length, map, ◌⊎◌, inl, inr}
+use Rattle.std.specs.Prelude.{slice_get, is_some, set, get_or, IfSome, IfNone, IsSome, ◌↔◌}
+use Rattle.std.specs.BTreeMap.{insert_entry, is_at}
 use Rattle.std.specs.List.{AllByRecursion, list_any}
-use Rattle.std.specs.Map.{values_of}
-use Rattle.std.specs.declared.cmp.Ordering.TheVariants.{Less, Greater}
+use Rattle.std.specs.Map.{lookup, values_of}
+use Rattle.std.specs.Ordering.{MatchOrdering, is_eq}
+use Rattle.std.specs.declared.cmp.Ordering.{Ordering}
+use Rattle.std.specs.declared.cmp.Ordering.TheVariants.{Less, Equal, Greater}
 use Rattle.std.proofs.lemmas.Bool.{cases_Bool, both_ways, cases_lt, lt-ltb, le-ltb}
 use Rattle.ds_base.specs.Copies.{Copies}
 use Rattle.ds_base.specs.Fronts.{upto, onward}
@@ -23,8 +25,8 @@ use Rattle.window_grouper.specs.Waiting.{seen, IsTidy, IsKept}
 use Rattle.window_grouper.proofs.Covers.{not_before}
 use Rattle.window_grouper.proofs.Insertion.{in_order-insert}
 use Rattle.window_grouper.proofs.Passing.{at_time, upto_split, onward_split, upto-insert, onward-insert, differs_whole}
-use Rattle.window_grouper.proofs.Standing.{past_bound, placed_all-append, stands_given, stands_marked}
-use Rattle.window_grouper.proofs.Stamps.{stamp_cmp, cmp_less, cmp_greater, before_true, before_false}
+use Rattle.window_grouper.proofs.Standing.{past_bound, placed_all-append, stands_given, stands_marked, differs_onward}
+use Rattle.window_grouper.proofs.Stamps.{stamp_cmp, cmp_less, cmp_greater, before_true, before_false, IsSame, stamps_ranked}
 
 -- ---- groups that have begun
 
@@ -389,3 +391,51 @@ pub next_ended : (marks : List (Option ℕ)) (least : Option ℕ) (old groups : 
 next_ended marks least old groups es fs now view e kept none ended =
     subst (λ (n : Grouping). least_mark n.marks ≡ None → n.held ≡ []) (sym (now_placed marks least old groups es fs now view e kept none))
     (λ all. ended (e ∙ all))
+
+-- ---- whether a stamp is among those that wait
+
+differs_from_cmp : (a b : Stamp) → is_eq (stamp_cmp a b) ≡ false → Precedes a b ⊎ Precedes b a
+differs_from_cmp a b h = by_rank (stamp_cmp a b) (stamps_ranked a b) h where
+  by_rank : (o : Ordering) → MatchOrdering o (Precedes a b) (IsSame a b) (Precedes b a) → is_eq o ≡ false → Precedes a b ⊎ Precedes b a
+  by_rank Less k e = inl k
+  by_rank Equal k e = absurd (cc)
+  by_rank Greater k e = inr k
+
+cmp_differs : (a b : Stamp) → Precedes a b ⊎ Precedes b a → is_eq (stamp_cmp a b) ≡ false
+cmp_differs a b h =
+    ⊎_elim
+    (λ (before : Precedes a b). ap is_eq (cmp_less a b before))
+    (λ (after : Precedes b a). ap is_eq (cmp_greater a b after))
+    h
+
+pub differs_absent : (at : Stamp) (es : List (Stamp × Summary)) → AllByRecursion (λ e. e.0 ≡ e.1.at) es
+    → is_some (lookup (is_at (stamp_cmp at)) es) ≡ false → DiffersFromAll at (values_of es)
+differs_absent at [] stamped h = tt
+differs_absent at (e ∷ es) stamped h =
+    ⊎_elim
+    (λ (here : is_eq (stamp_cmp at e.0) ≡ true). let found : is_some (Some e.1) ≡ false = rw here at h in absurd (cc))
+    (λ (other : is_eq (stamp_cmp at e.0) ≡ false).
+    let rest : is_some (lookup (is_at (stamp_cmp at)) es) ≡ false = rw other at h in
+    let own : is_eq (stamp_cmp at e.1.at) ≡ false = subst (λ (b : Stamp). is_eq (stamp_cmp at b) ≡ false) stamped.0 other in
+    (differs_from_cmp at e.1.at own, differs_absent at es stamped.1 rest))
+    (cases_Bool (is_eq (stamp_cmp at e.0)))
+
+pub absent_differs : (at : Stamp) (es : List (Stamp × Summary)) → AllByRecursion (λ e. e.0 ≡ e.1.at) es
+    → DiffersFromAll at (values_of es) → is_some (lookup (is_at (stamp_cmp at)) es) ≡ false
+absent_differs at [] stamped h = refl
+absent_differs at (e ∷ es) stamped h =
+    let own : is_eq (stamp_cmp at e.0) ≡ false =
+    subst (λ (b : Stamp). is_eq (stamp_cmp at b) ≡ false) (sym stamped.0) (cmp_differs at e.1.at h.0) in
+    rw own (absent_differs at es stamped.1 h.1)
+
+-- a stamp that is not below the least mark differs from all summaries that were not placed, where it differs from
+-- those that are seen to wait
+pub apart_from_all : (marks : List (Option ℕ)) (groups : Open) (ss : List Summary) (at : Stamp) (now : Grouping) → seen marks groups ss ≡ now
+    → MayCome now.marks at → DiffersFromAll at now.waiting → DiffersFromAll at ss
+apart_from_all marks groups ss at now view may apart =
+    (comes_apart marks groups ss (record { at = at; key = []; vals = [] }) now view may apart).1
+
+pub apart_from_seen : (marks : List (Option ℕ)) (groups : Open) (ss : List Summary) (at : Stamp) (now : Grouping) → seen marks groups ss ≡ now
+    → DiffersFromAll at ss → DiffersFromAll at now.waiting
+apart_from_seen marks groups ss at now view h =
+    subst (λ (n : Grouping). DiffersFromAll at n.waiting) view (differs_onward at (at_time (is_past marks)) ss h)

@@ -1,5 +1,5 @@
 -- What a grouper holds, and the lists that it stands for.
-use Rattle.std.specs.Prelude.{ℕ, Bool, true, false, List, [], ◌∷◌, ◌++◌, ◌≡◌, ◌≤◌, ◌-◌, Option, Some, None, get_or}
+use Rattle.std.specs.Prelude.{ℕ, Bool, true, false, List, [], ◌∷◌, ◌++◌, ◌≡◌, ◌≤◌, ◌+◌, ◌-◌, Option, Some, None, get_or, length}
 use Rattle.std.specs.List.{AllByRecursion}
 use Rattle.ds_base.specs.Copies.{Copies}
 use Rattle.ds_base.specs.Fronts.{upto, onward}
@@ -7,9 +7,9 @@ use Rattle.ds_base.specs.declared.stamp.Stamp.{Stamp}
 use Rattle.ds_base.specs.declared.summary.Summary.{Summary}
 use Rattle.watermarks.specs.Least.{Allows, least_mark, under}
 use Rattle.window_grouper.specs.Closed.{AreLate, is_closed}
-use Rattle.window_grouper.specs.Groups.{groups_of}
+use Rattle.window_grouper.specs.Groups.{groups_of, members_in}
 use Rattle.window_grouper.specs.Placing.{placed}
-use Rattle.window_grouper.specs.Sorted.{StampsDiffer, by_stamp, insert_by_stamp}
+use Rattle.window_grouper.specs.Sorted.{DiffersFromAll, StampsDiffer, by_stamp, insert_by_stamp}
 
 -- what contracts see of a grouper: the marks of the captures; the groups that are held, in the order of their
 -- firsts, of the summaries that all marks have passed; and the summaries that wait for the marks, in stamp order
@@ -72,6 +72,15 @@ abbrev pub ClosedInFront : Grouping → ℕ → List Summary → List Copies →
 ClosedInFront now window added given later = StandsFor now window added given → AreLate (is_past now.marks) later → StampsDiffer (added ++ later)
     → upto (is_closed (is_past now.marks) window) (groups_of window (by_stamp (added ++ later)))
     ≡ given ++ upto (is_closed (is_past now.marks) window) now.held
+
+-- the groups given out, those held and the summaries that wait have as many summaries as were added
+abbrev pub HeldOnce : Grouping → ℕ → List Summary → List Copies → Type 0
+HeldOnce now window added given = StandsFor now window added given
+    → members_in given + members_in now.held + length now.waiting ≡ length added
+
+-- where the stamps of all that was added and of s differ, that of s differs from those that wait
+abbrev pub StampsApart : Grouping → ℕ → List Summary → List Copies → Summary → Type 0
+StampsApart now window added given s = StandsFor now window added given → StampsDiffer (added ++ s ∷ []) → DiffersFromAll s.at now.waiting
 
 -- the first member, if there is one, has at least this time
 abbrev pub BeginsFrom : ℕ → List Summary → Type 0

@@ -1,5 +1,5 @@
 //! Groups of summaries that come in any order which the marks of their captures allow.
-ghost use Rattle.std.specs.Prelude.{ℕ, Bool, true, false, List, [], ◌++◌, ◌∷◌, ◌≡◌, ◌<◌, ◌≤◌, Some, None, OnOk, OnErr, IfOk, IfSome, IfNone, length, set, get_or, replicate};
+ghost use Rattle.std.specs.Prelude.{ℕ, Bool, true, false, List, [], ◌++◌, ◌∷◌, ◌≡◌, ◌<◌, ◌≤◌, Some, None, OnOk, OnErr, IfOk, IfSome, IfNone, IsTrue, ◌↔◌, length, set, get_or, replicate};
 ghost use Rattle.std.specs.Map.{values_of};
 ghost use Rattle.ds_base.specs.Copies.{Copies, copies_of};
 ghost use Rattle.ds_base.specs.Fronts.{upto};
@@ -8,7 +8,7 @@ ghost use Rattle.watermarks.specs.Least.{least_mark, under};
 ghost use Rattle.watermarks.specs.Raised.{raised_to};
 ghost use Rattle.window_grouper.specs.Closed.{AreLate, is_closed};
 ghost use Rattle.window_grouper.specs.Groups.{groups_of};
-ghost use Rattle.window_grouper.specs.Grouping.{ClosedInFront, Grouping, IsSettled, MayCome, NoneClosed, OthersFrom, StandsFor, is_past, marked, out_mark, with_group, with_summary};
+ghost use Rattle.window_grouper.specs.Grouping.{IsSettled, MayCome, NoneClosed, OthersFrom, StandsFor, is_past, marked, out_mark, with_group, with_summary};
 ghost use Rattle.window_grouper.specs.Sorted.{DiffersFromAll, StampsDiffer, by_stamp};
 ghost use Rattle.window_grouper.specs.Waiting.{IsKept, IsTidy};
 
@@ -63,12 +63,25 @@ impl Grouper {
         }
     }
 
+    /// Whether a summary with this stamp may be added: its capture has not ended, its time is not below
+    /// the capture's mark, and no summary that waits has the stamp. It takes no memory.
+    pub fn may_add(&self, at: &Stamp) -> bool
+        requires { at.now.capture < length self.now.marks }
+        ensures { IsTrue result ↔ (MayCome self.now.marks at.now × DiffersFromAll at.now self.now.waiting) }
+    {
+        match self.marks.get(at.capture) {
+            Some(mark) => mark <= at.time && !self.waiting.contains_key(at),
+            None => false,
+        }
+    }
+
     /// Adds a summary of a capture that has not ended, whose time is not below the capture's mark and
-    /// whose stamp no summary that waits has. The only refusal is want of memory, and then nothing
+    /// whose stamp no summary that waits has (`may_add` tests it). The only refusal is want of memory, and then nothing
     /// changes.
     pub fn add(&mut self, s: Summary) -> Result<(), OutOfMemory>
         requires may { MayCome self.old.marks s.at }
         requires apart { DiffersFromAll s.at self.old.waiting }
+        ensures marks { self.new.marks ≡ self.old.marks }
         ensures added { OnOk result (self.new ≡ with_summary s self.old) }
         ensures refused { OnErr result (self.new ≡ self.old) }
         ensures stands { OnOk result ((window : ℕ) (added : List Summary) (given : List Copies) →
@@ -106,6 +119,7 @@ impl Grouper {
     /// ended, exactly where none is held, and then all groups of what was added were given out. The only
     /// refusal is want of memory, and then nothing changes.
     pub fn next_closed(&mut self) -> Result<Option<Group>, OutOfMemory>
+        ensures marks { self.new.marks ≡ self.old.marks }
         ensures first { IfOk result (λ next. IfSome next (λ group. self.old ≡ with_group (copies_of group) self.new)) }
         ensures closed { IfOk result (λ next. IfSome next (λ group.
             is_closed (is_past self.old.marks) self.old.window (copies_of group) ≡ true)) }
@@ -202,11 +216,3 @@ fn first_closed(groups: &mut OpenGroups, least: Option<u64>) -> Option<Group>
         None => groups.next(),
     }
 }
-
-/// A law: whatever is added to a grouper later, the groups that are closed now are those that were given
-/// out and the closed ones of those held, and they are the first of all groups. So what was given out
-/// gains no member, and no group comes before it.
-pub fn closed_in_front()
-    ensures { (now : Grouping) (window : ℕ) (added : List Summary) (given : List Copies) (later : List Summary) →
-        ClosedInFront now window added given later }
-{}

@@ -1,7 +1,9 @@
 ghost use Rattle.std.specs.Prelude.{ℕ, Bool, List};
+ghost use Rattle.ds_base.specs.Copies.{Copies};
 ghost use Rattle.ds_base.specs.declared.summary.Summary.{Summary};
 ghost use Rattle.window_grouper.specs.Closed.{ClosedStay, ShardGroups};
 ghost use Rattle.window_grouper.specs.Cut.{OneCut};
+ghost use Rattle.window_grouper.specs.Grouping.{ClosedInFront, Grouping, HeldOnce, StampsApart};
 ghost use Rattle.window_grouper.specs.Groups.{OneGrouping, AllGrouped};
 
 /// A law: by any window, a list has exactly one cut.
@@ -33,4 +35,25 @@ pub fn closed_stay()
 /// order. So each shard can be grouped by itself.
 pub fn shard_groups()
     ensures { (test : List ℕ → Bool) (window : ℕ) (l : List Summary) → ShardGroups test window l }
+{}
+
+/// A law: whatever is added to a grouper later, the groups that are closed now are those that were given
+/// out and the closed ones of those held, and they are the first of all groups. So what was given out
+/// gains no member, and no group comes before it.
+pub fn closed_in_front()
+    ensures { (now : Grouping) (window : ℕ) (added : List Summary) (given : List Copies) (later : List Summary) →
+        ClosedInFront now window added given later }
+{}
+
+/// A law: a grouper holds each summary once. The groups given out, the groups held and the summaries that
+/// wait have together as many summaries as were added.
+pub fn held_once()
+    ensures { (now : Grouping) (window : ℕ) (added : List Summary) (given : List Copies) → HeldOnce now window added given }
+{}
+
+/// A law: where the stamps of all that was added and of one summary more differ, no summary that waits
+/// has that one's stamp, as `Grouper::add` asks.
+pub fn stamps_apart()
+    ensures { (now : Grouping) (window : ℕ) (added : List Summary) (given : List Copies) (s : Summary) →
+        StampsApart now window added given s }
 {}
