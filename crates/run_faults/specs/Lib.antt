@@ -1,0 +1,3 @@
+pub mod JobLine
+pub mod FaultLine
+pub mod Status

@@ -1,0 +1,16 @@
+//! The faults of a run, each with its line on the standard error and its exit status, for every command.
+//! A new fault is a variant of `RunFault`, its text in `fault_text` and `push_fault`, and its status.
+//! The line is put together in a buffer of fixed size, so that saying that there is no memory takes none.
+#![tactic(auto)]
+
+mod capture_name;
+mod complaint;
+mod fault;
+mod job_complaint;
+mod line;
+mod exit_status;
+
+pub use capture_name::CaptureName;
+pub use complaint::complain;
+pub use fault::{RunFault, Stop};
+pub use exit_status::status;
