@@ -111,6 +111,9 @@ def check_tables(repository, fault):
     code, _ = split_code(read("crates/dshark_cli/src/tool.rt"))
     top = re.search(r"pub fn run_tool\b.*?\n\{", code, re.S).group()
     clauses = set(re.findall(r"\bensures (\w+) \{", top))
+    # The clause `promises` is a record, whose fields are clauses too.
+    promises = read("crates/dshark_cli/specs/Promises.antt").split("pub record Promises")[1]
+    clauses |= set(re.findall(r"^  pub (\w+) :", promises, re.M))
     section = read("docs/PROMISES.md").split("## The clauses of `run_tool`")[1].split("\n## ")[0].split("The status")[0]
     told = {name for row in re.findall(r"^\| (`.*?) \|", section, re.M) for name in re.findall(r"`(\w+)`", row)}
     for clause in clauses - told:

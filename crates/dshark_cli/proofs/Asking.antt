@@ -1,4 +1,5 @@
-use Rattle.std.proofs.Common.{ℕ, List, ◌≡◌, Option, Some, None, refl, sym, ap, ◌∙◌}
+-- What the words give, where they ask nothing or one thing.
+use Rattle.std.proofs.Common.{ℕ, List, ◌≡◌, Option, Some, None, refl, ap}
 use Rattle.command_words.specs.Words.{Asked, Accepts}
 use Rattle.dshark_cli.specs.Words.{Give}
 
@@ -12,8 +13,3 @@ pub only_some : (words : List (List ℕ)) (a : Asked) → Accepts words a → ((
     → (o : Option Asked) → Give words o → o ≡ Some a
 only_some words a accepts only None g = absurd (g a accepts)
 only_some words a accepts only (Some b) g = ap Some (only b g)
-
--- two askings that are both the only one
-pub same_asking : (words : List (List ℕ)) (a : Asked) → ((b : Asked) → Accepts words b → b ≡ a)
-    → (b c : Asked) → Accepts words b → Accepts words c → b ≡ c
-same_asking words a only b c hb hc = only b hb ∙ sym (only c hc)

@@ -1,6 +1,7 @@
 -- How `central` ends, by how its job was read and its report written.
-use Rattle.std.proofs.Common.{ℕ, List, [], ◌∷◌, ◌++◌, ◌≡◌, ◌≤◌, ◌∙◌, Bool, true, zero, suc, Some, None, sym, ap, subst, length, arith}
+use Rattle.std.proofs.Common.{ℕ, ◌<◌, ◌+◌, List, [], ◌∷◌, ◌++◌, ◌≡◌, ◌≤◌, ◌∙◌, Bool, true, zero, suc, Some, None, refl, sym, ap, subst, length, arith}
 use Rattle.std.specs.Prelude.{IsTrue, slice_get}
+use Rattle.std.proofs.lemmas.List.{length-map}
 use Rattle.command_words.specs.Words.Asked.{AskedCentral}
 use Rattle.ds_base.specs.Gain.{GainsPrefix}
 use Rattle.ds_base.specs.Items.{Items}
@@ -12,17 +13,25 @@ use Rattle.job_table.specs.Words.{is_identifier}
 use Rattle.summary_spec.proofs.CaptureNames.{captures_new}
 use Rattle.job_text.proofs.NewNames.{AllNew}
 use Rattle.job_text.proofs.Lengths.{identifier_short}
-use Rattle.dshark_cli.specs.declared.fault.RunFault.{RunFault}
-use Rattle.dshark_cli.specs.declared.fault.RunFault.TheVariants.{Usage, BadJob, Malformed, ReadFault, WriteFault, OutOfMemory}
-use Rattle.dshark_cli.specs.Captures.{IsFirstMalformed, IsUnreadAt}
-use Rattle.dshark_cli.specs.Files.{HasFile}
-use Rattle.dshark_cli.specs.JobFile.{ReadsJob}
-use Rattle.dshark_cli.specs.Jobs.{Declares, IsDeclared}
+use Rattle.input_files.specs.Files.{HasFile}
+use Rattle.job_inputs.specs.Captures.{IsFirstMalformed, IsUnreadAt}
+use Rattle.job_inputs.specs.JobFile.{ReadsJob, StopsJob}
+use Rattle.job_inputs.specs.Jobs.{Declares, IsDeclared}
+use Rattle.job_inputs.specs.declared.fault.CapturesFault.TheVariants.{Malformed, Unread, OutOfMemory}
+use Rattle.job_inputs.specs.declared.fault.JobFileFault.{JobFileFault}
+use Rattle.job_inputs.specs.declared.fault.JobFileFault.TheVariants as job
+use Rattle.run_faults.specs.declared.fault.RunFault.{RunFault}
+use Rattle.dshark_cli.specs.declared.job_report.ReportFault.{ReportFault}
+use Rattle.dshark_cli.specs.declared.job_report.ReportFault.TheVariants.{Captures, Unwritten}
+use Rattle.dshark_cli.specs.Faults.{of_job, of_report}
 use Rattle.dshark_cli.specs.Naming.{IfMalformed, IsNameAt, NamesFault}
-use Rattle.dshark_cli.specs.Reports.{report_in, AreAllSound, WritesReport, StopsReport}
-use Rattle.dshark_cli.specs.Run.{captures_of, due, IsSound, EndsOk, EndsBy}
+use Rattle.dshark_cli.specs.Reports.{report_in, AreAllSound, WritesReport, StopsReport, IfCapture}
+use Rattle.dshark_cli.specs.Rooms.{AJobAndItsCaptures, room_of, captures_of, IsSound}
+use Rattle.dshark_cli.specs.Run.{EndsOk, EndsBy}
 use Rattle.dshark_cli.proofs.Declaring.{captures_declared, names_declared, report_declared}
-use Rattle.dshark_cli.proofs.Missing.{has_file, unread_behind}
+use Rattle.job_inputs.proofs.JobCaptures.{as_many_files}
+use Rattle.job_inputs.proofs.Missing.{has_file}
+use Rattle.dshark_cli.proofs.Missing.{unread_first, unread_behind}
 
 -- ---- the folder behind the reading of the job
 
@@ -40,26 +49,26 @@ tells before now stays told = rw stays.told told
 
 pub central_prefix : (before now : FolderSeen) (name old new : List ℕ) (job : Job) → FolderStays before now → ReadsJob before now name job
     → (IsTrue now.told → GainsPrefix old new (report_in now (declared_of job))) → IsTrue before.told
-    → GainsPrefix old new (due (Some (AskedCentral name)) before)
+    → GainsPrefix old new ((room_of (AskedCentral name)).due before)
 central_prefix before now name old new job stays read gained told =
     let P : List ℕ → Type 0 = λ due. GainsPrefix old new due in
     subst P (ap (λ (f : FolderSeen). report_in f (declared_of job)) (same_folder before now stays read.faults told) ∙ sym (report_declared before name (declared_of job) (read.declares told)))
     (gained (tells before now stays told))
 
 sound_job : (before now : FolderSeen) (name : List ℕ) (job : Job) → FolderStays before now → ReadsJob before now name job
-    → (IsTrue now.told → AreAllSound now (declared_of job).files) → IsTrue before.told → IsSound (AskedCentral name) before
+    → (IsTrue now.told → AreAllSound now (declared_of job).files) → IsTrue before.told → IsSound (AJobAndItsCaptures name) before
 sound_job before now name job stays read sound told = (
-  declared_of job,
-  read.declares told,
-  subst (λ (f : FolderSeen). AreAllSound f (declared_of job).files) (same_folder before now stays read.faults told) (sound (tells before now stays told)),
+  (declared_of job, read.declares told),
+  subst (AreAllSound before) (sym (captures_declared before name (declared_of job) (read.declares told)))
+      (subst (λ (f : FolderSeen). AreAllSound f (declared_of job).files) (same_folder before now stays read.faults told) (sound (tells before now stays told))),
 )
 
 pub central_ok : (before now after : FolderSeen) (old new : SinkSeen) (name : List ℕ) (job : Job) → FolderStays before now
-    → ReadsJob before now name job → WritesReport (declared_of job) now after old new → EndsOk (AskedCentral name) before after old new
+    → ReadsJob before now name job → WritesReport (declared_of job) now after old new → EndsOk (room_of (AskedCentral name)) before after old new
 central_ok before now after old new name job stays read writes = record {
   folder_quiet = writes.folder_quiet ∙ read.faults;
   out_quiet = writes.out_quiet;
-  leaves = tt;
+  leaves = λ none. absurd (let no : 65 ≡ 0 = none in cc);
   sound = sound_job before now name job stays read writes.sound;
   whole = λ told out.
       writes.whole (tells before now stays told) out
@@ -76,11 +85,9 @@ job_there : (folder : FolderSeen) (name : List ℕ) (declared : Declared) → De
 job_there folder name declared (bytes, file, is) = has_file folder name bytes file
 
 pub central_stops : (before now after : FolderSeen) (old new : SinkSeen) (name : List ℕ) (job : Job) → FolderStays before now
-    → ReadsJob before now name job → (fault : RunFault) → StopsReport (declared_of job) now after old new fault
-    → EndsBy (AskedCentral name) before after old new fault
-central_stops before now after old new name job stays read (Usage place) h = h
-central_stops before now after old new name job stays read (BadJob fault) h = absurd h
-central_stops before now after old new name job stays read (Malformed capture at what) h = (
+    → ReadsJob before now name job → (fault : ReportFault) → StopsReport (declared_of job) now after old new fault
+    → EndsBy (room_of (AskedCentral name)) before after old new (of_report fault)
+central_stops before now after old new name job stays read (Captures (Malformed capture at what)) (h, waited) = (
   omega (arith, h.1, few_files job),
   h.0 ∙ read.faults,
   (λ told.
@@ -89,42 +96,66 @@ central_stops before now after old new name job stays read (Malformed capture at
       subst Q (sym (captures_declared before name (declared_of job) (read.declares told)))
       (subst P (same_folder before now stays read.faults told) (h.2 (tells before now stays told)))),
   (λ told out. tt),
-  (λ out. h.3),
+  (λ out. waited),
 )
-central_stops before now after old new name job stays read (ReadFault file) h = (
-  omega (arith, h.1, h.2, few_files job),
+central_stops before now after old new name job stays read (Captures (Unread capture)) (h, waited) = (
+  omega (arith, h.0, few_files job),
   (λ told.
-      let P : FolderSeen → Type 0 = λ f. IsUnreadAt f after (declared_of job).files h.0 in
-      let Q : List (List ℕ) → Type 0 = λ names. IsUnreadAt before after names h.0 in
-      unread_behind before after name (captures_of (AskedCentral name) before) h.0 file h.1 (job_there before name (declared_of job) (read.declares told))
+      let P : FolderSeen → Type 0 = λ f. IsUnreadAt f after (declared_of job).files capture in
+      let Q : List (List ℕ) → Type 0 = λ names. IsUnreadAt before after names capture in
+      unread_behind before after name (captures_of (AJobAndItsCaptures name) before) capture (capture + 1) refl (job_there before name (declared_of job) (read.declares told))
       (subst Q (sym (captures_declared before name (declared_of job) (read.declares told)))
-      (subst P (same_folder before now stays read.faults told) (h.3 (tells before now stays told))))),
-  (λ out. h.4),
+      (subst P (same_folder before now stays read.faults told) (h.1 (tells before now stays told))))),
+  (λ out. waited),
 )
-central_stops before now after old new name job stays read WriteFault h = (h.0, h.1 ∙ read.faults, tt, sound_job before now name job stays read h.2)
-central_stops before now after old new name job stays read OutOfMemory h = (tt, λ out. h)
+central_stops before now after old new name job stays read (Captures OutOfMemory) (h, waited) =
+    ((λ none. absurd (let no : 65 ≡ 0 = none in cc)), λ out. waited)
+central_stops before now after old new name job stays read Unwritten h =
+    (h.0, h.1 ∙ read.faults, (λ none. absurd (let no : 65 ≡ 0 = none in cc)), sound_job before now name job stays read h.2)
+
+-- how it ends where the job is not read
+pub central_refused : (name : List ℕ) (before after : FolderSeen) (out : SinkSeen) (fault : JobFileFault) → StopsJob before after name fault
+    → EndsBy (room_of (AskedCentral name)) before after out out (of_job fault)
+central_refused name before after out (job.Bad fault) h = (refl, h.0, h.1, λ told. refl)
+central_refused name before after out job.Unread h =
+    (omega arith, (λ told. unread_first before after name (captures_of (AJobAndItsCaptures name) before) 0 refl (h told)), λ told. refl)
+central_refused name before after out job.OutOfMemory h = ((λ none. absurd (let no : 65 ≡ 0 = none in cc)), λ told. refl)
 
 -- ---- the name of the capture
 
+-- a fault of the job's file has no capture
+pub refused_named : (file name : List ℕ) (before : FolderSeen) (fault : JobFileFault) → NamesFault (AJobAndItsCaptures file) before name (of_job fault)
+refused_named file name before (job.Bad fault) = tt
+refused_named file name before job.Unread = tt
+refused_named file name before job.OutOfMemory = tt
+
 -- the name of the job's capture is the one that the folder's file gives it
-named_at : (before : FolderSeen) (file : List ℕ) (declared : Declared) (name : List ℕ) (fault : RunFault)
-    → (IsTrue before.told → Declares before file declared) → IfMalformed fault (IsNameAt declared.captures name)
-    → NamesFault (AskedCentral file) before name fault
-named_at before file declared name (Usage place) declares h = tt
-named_at before file declared name (BadJob fault) declares h = tt
-named_at before file declared name (Malformed capture at what) declares h = (
+named_at : (before : FolderSeen) (file : List ℕ) (declared : Declared) (name : List ℕ) (fault : ReportFault)
+    → (IsTrue before.told → Declares before file declared) → IfMalformed (of_report fault) (IsNameAt declared.captures name)
+    → NamesFault (AJobAndItsCaptures file) before name (of_report fault)
+named_at before file declared name (Captures (Malformed capture at what)) declares h = (
   h.0,
   λ told. ap (λ (names : List (List ℕ)). slice_get names capture) (names_declared before file declared (declares told)) ∙ h.1,
 )
-named_at before file declared name (ReadFault number) declares h = tt
-named_at before file declared name WriteFault declares h = tt
-named_at before file declared name OutOfMemory declares h = tt
+named_at before file declared name (Captures (Unread capture)) declares h = tt
+named_at before file declared name (Captures OutOfMemory) declares h = tt
+named_at before file declared name Unwritten declares h = tt
 
-pub central_named : (before : FolderSeen) (file : List ℕ) (declared : Declared) (name : List ℕ) (fault shown : RunFault)
-    → (IsTrue before.told → Declares before file declared) → shown ≡ fault → IfMalformed fault (IsNameAt declared.captures name)
-    → NamesFault (AskedCentral file) before name shown
+pub central_named : (before : FolderSeen) (file : List ℕ) (declared : Declared) (name : List ℕ) (fault : ReportFault) (shown : RunFault)
+    → (IsTrue before.told → Declares before file declared) → shown ≡ of_report fault → IfMalformed (of_report fault) (IsNameAt declared.captures name)
+    → NamesFault (AJobAndItsCaptures file) before name shown
 central_named before file declared name fault shown declares is h =
-    subst (NamesFault (AskedCentral file) before name) (sym is) (named_at before file declared name fault declares h)
+    subst (NamesFault (AJobAndItsCaptures file) before name) (sym is) (named_at before file declared name fault declares h)
+
+-- the captures of a report that stops are the job's
+pub stops_within : (job : Job) (before after : FolderSeen) (old new : SinkSeen) (fault : ReportFault) → StopsReport (declared_of job) before after old new fault
+    → IfCapture fault (λ capture. capture < length job.names.captures.items)
+stops_within job before after old new (Captures (Malformed capture at what)) (h, waited) =
+    omega (arith, h.1, length-map job.files.items (λ list. list.items), as_many_files job)
+stops_within job before after old new (Captures (Unread capture)) (h, waited) =
+    omega (arith, h.0, length-map job.files.items (λ list. list.items), as_many_files job)
+stops_within job before after old new (Captures OutOfMemory) h = tt
+stops_within job before after old new Unwritten h = tt
 
 -- ---- names that are read
 

@@ -5,13 +5,14 @@ use Rattle.command_words.specs.Words.Asked.{AskedCentral}
 use Rattle.ds_base.specs.Outside.{FolderSeen}
 use Rattle.summary_spec.specs.Declaration.{Declared}
 use Rattle.summary_spec.specs.Reads.{reads}
-use Rattle.dshark_cli.specs.Jobs.{Declares, said_in, files_said, names_said}
-use Rattle.dshark_cli.specs.Reports.{report_in, reported}
-use Rattle.dshark_cli.specs.Run.{captures_of, due, due_from}
+use Rattle.job_inputs.specs.Jobs.{Declares}
+use Rattle.dshark_cli.specs.Said.{said_in, files_said, names_said}
+use Rattle.dshark_cli.specs.Reports.{report_in, report_said}
+use Rattle.dshark_cli.specs.Rooms.{AJobAndItsCaptures, room_of, captures_of}
 
 -- the captures' files are those that it declares
 pub captures_declared : (folder : FolderSeen) (name : List ℕ) (declared : Declared) → Declares folder name declared
-    → captures_of (AskedCentral name) folder ≡ declared.files
+    → captures_of (AJobAndItsCaptures name) folder ≡ declared.files
 captures_declared folder name declared (bytes, file, is) =
     ap (λ (found : Option (List ℕ)). files_said (option_map reads found)) file ∙ ap (λ said. files_said (Some said)) is
 
@@ -23,6 +24,6 @@ names_declared folder name declared (bytes, file, is) =
 
 -- what is due is the report of the job
 pub report_declared : (folder : FolderSeen) (name : List ℕ) (declared : Declared) → Declares folder name declared
-    → due (Some (AskedCentral name)) folder ≡ report_in folder declared
+    → (room_of (AskedCentral name)).due folder ≡ report_in folder declared
 report_declared folder name declared (bytes, file, is) =
-    ap (due_from (AskedCentral name) folder) file ∙ ap (λ said. reported said folder) is
+    ap (λ (found : Option (List ℕ)). report_said folder (option_map reads found)) file ∙ ap (λ said. report_said folder (Some said)) is

@@ -3,7 +3,7 @@ use Rattle.command_words.specs.CommandLine.{Have}
 use Rattle.command_words.specs.CommandTable.{plain_kinds}
 use Rattle.command_words.specs.Words.{Asked, Accepts, command_of}
 use Rattle.command_words.specs.Words.Asked.{AskedCount, AskedStack, AskedCheck, AskedCentral, AskedHelp, AskedVersion}
-use Rattle.dshark_cli.specs.Run.{IsInLimits}
+use Rattle.dshark_cli.specs.Rooms.{IsInLimits}
 
 -- what the words ask is in its limits
 pub in_limits : (words : List (List ℕ)) (asked : Asked) → Accepts words asked → IsInLimits asked

@@ -3,22 +3,9 @@ use Rattle.std.proofs.Common.{ℕ, zero, suc, List, ◌∷◌, ◌≡◌, ◌<�
 use Rattle.std.specs.Prelude.{◌⊎◌, is_some, slice_get}
 use Rattle.ds_base.specs.Faults.{Rose}
 use Rattle.ds_base.specs.Outside.{FolderSeen, file_named}
-use Rattle.dshark_cli.specs.Captures.{AreThereBefore, IsUnreadAt}
-use Rattle.dshark_cli.specs.Files.{HasFile, IsUnread}
-
-pub has_file : (folder : FolderSeen) (name bytes : List ℕ) → file_named folder.files name ≡ Some bytes → HasFile folder name
-has_file folder name bytes file = ap is_some file
-
--- a failed read, or a missing file, before which these are there
-abbrev pub IsFirstUnread : FolderSeen → FolderSeen → (name : List ℕ) → (names : List (List ℕ)) → (number : ℕ) → Type 0
-IsFirstUnread before after name names number =
-    Rose before.faults after.faults ⊎ ((file_named before.files name ≡ None) × AreThereBefore before names number)
-
--- a file that is not read, where those before it are there
-pub first_unread : (before after : FolderSeen) (name : List ℕ) (names : List (List ℕ)) (number : ℕ) → AreThereBefore before names number
-    → IsUnread before after name → IsFirstUnread before after name names number
-first_unread before after name names number there (inl rose) = inl rose
-first_unread before after name names number there (inr lacks) = inr (lacks, there)
+use Rattle.job_inputs.specs.Captures.{AreThereBefore, IsUnreadAt}
+use Rattle.input_files.specs.Files.{HasFile, IsUnread}
+use Rattle.job_inputs.proofs.Missing.{IsFirstUnread, first_unread}
 
 -- the first of all files, where it is not read
 pub unread_first : (before after : FolderSeen) (name : List ℕ) (names : List (List ℕ)) (file : ℕ) → file ≡ 0 → IsUnread before after name

@@ -9,11 +9,14 @@ use Rattle.field_table.specs.declared.field_ref.FieldRef.{FieldRef}
 use Rattle.central_report.specs.Report.{report}
 use Rattle.summary_spec.specs.CountJob.{count_job}
 use Rattle.summary_spec.specs.Declaration.{Declared}
-use Rattle.dshark_cli.specs.declared.fault.RunFault.{RunFault}
-use Rattle.dshark_cli.specs.declared.fault.RunFault.TheVariants.{Usage, BadJob, Malformed, ReadFault, WriteFault, OutOfMemory}
-use Rattle.dshark_cli.specs.Captures.{AreFiles, AreSound, IsUnreadAt, ReportsCaptures}
-use Rattle.dshark_cli.specs.Reports.{with_bytes, files_named, report_where, report_in, AreAllSound, WritesReport, StopsReport, first_number}
-use Rattle.dshark_cli.specs.Run.{due, due_from, EndsOk, EndsBy}
+use Rattle.job_inputs.specs.Captures.{AreFiles, AreSound, IsUnreadAt}
+use Rattle.job_inputs.specs.declared.fault.CapturesFault.TheVariants.{Malformed, Unread, OutOfMemory}
+use Rattle.dshark_cli.specs.declared.job_report.ReportFault.{ReportFault}
+use Rattle.dshark_cli.specs.declared.job_report.ReportFault.TheVariants.{Captures, Unwritten}
+use Rattle.dshark_cli.specs.Faults.{of_count}
+use Rattle.dshark_cli.specs.Reports.{with_bytes, files_named, report_where, report_in, AreAllSound, ReportsCaptures, WritesReport, StopsReport}
+use Rattle.dshark_cli.specs.Rooms.{room_of}
+use Rattle.dshark_cli.specs.Run.{EndsOk, EndsBy}
 
 -- ---- the files
 
@@ -45,49 +48,40 @@ report_prefix job before after old new text piece reports is told gained =
     subst P (is ∙ reports.says ∙ sym (report_is before job reports.given (reports.files told))) gained
 
 -- how it ends with its write
-pub report_ends : (job : Declared) (before after : FolderSeen) (old new : SinkSeen) (text piece : List ℕ) (result : Result (Unit {0}) RunFault)
-    → ReportsCaptures job before after text → piece ≡ text
-    → MatchResult result (λ _. new.faults ≡ old.faults) (λ fault. (fault ≡ WriteFault) × Rose old.faults new.faults)
-    → (IsTrue old.told → OnOk result (new.written ≡ old.written ++ piece))
-    → MatchResult result (λ _. WritesReport job before after old new) (StopsReport job before after old new)
-report_ends job before after old new text piece (Ok done) reports is quiet written = record {
+pub report_whole : (job : Declared) (before after : FolderSeen) (old new : SinkSeen) (text piece : List ℕ) → ReportsCaptures job before after text
+    → piece ≡ text → new.faults ≡ old.faults → (IsTrue old.told → new.written ≡ old.written ++ piece) → WritesReport job before after old new
+report_whole job before after old new text piece reports is quiet written = record {
   folder_quiet = reports.faults;
   out_quiet = quiet;
   sound = λ told. all_sound before job.files reports.given (reports.files told) reports.sound;
   whole = λ told out. written out ∙ ap (λ due. old.written ++ due) (is ∙ reports.says ∙ sym (report_is before job reports.given (reports.files told)));
 }
-report_ends job before after old new text piece (Err fault) reports is failed written =
-    subst (StopsReport job before after old new) (sym failed.0)
-    (failed.1, reports.faults, λ told. all_sound before job.files reports.given (reports.files told) reports.sound)
+
+-- and what is known of the captures then
+pub report_sound : (job : Declared) (before after : FolderSeen) (text : List ℕ) → ReportsCaptures job before after text → IsTrue before.told
+    → AreAllSound before job.files
+report_sound job before after text reports told = all_sound before job.files reports.given (reports.files told) reports.sound
 
 -- ---- `count`
 
-due_where : (job : Declared) (found : Option (List ℕ)) (folder : FolderSeen) (field : FieldRef) (window : ℕ) (file : List ℕ)
-    → job ≡ count_job field window file
-    → report_where job (with_bytes found (Some [])) ≡ due_from (AskedCount field window file) folder found
-due_where job None folder field window file is = refl
-due_where job (Some bytes) folder field window file is = ap (λ (j : Declared). report j (bytes ∷ [])) is
-
 -- what is due is the report of the job of `count`
 pub due_of_count : (job : Declared) (folder : FolderSeen) (field : FieldRef) (window : ℕ) (file : List ℕ) → job ≡ count_job field window file
-    → report_in folder job ≡ due (Some (AskedCount field window file)) folder
-due_of_count job folder field window file is =
-    ap (λ (j : Declared). report_where job (files_named folder j.files)) is
-    ∙ due_where job (file_named folder.files file) folder field window file is
+    → report_in folder job ≡ (room_of (AskedCount field window file)).due folder
+due_of_count job folder field window file is = ap (report_in folder) is
 
 pub count_prefix : (job : Declared) (folder : FolderSeen) (field : FieldRef) (window : ℕ) (file old new : List ℕ) → job ≡ count_job field window file
-    → GainsPrefix old new (report_in folder job) → GainsPrefix old new (due (Some (AskedCount field window file)) folder)
+    → GainsPrefix old new (report_in folder job) → GainsPrefix old new ((room_of (AskedCount field window file)).due folder)
 count_prefix job folder field window file old new is gained =
     let P : List ℕ → Type 0 = λ due. GainsPrefix old new due in
     subst P (due_of_count job folder field window file is) gained
 
 pub count_ok : (job : Declared) (field : FieldRef) (window : ℕ) (file : List ℕ) (before after : FolderSeen) (old new : SinkSeen)
-    → job ≡ count_job field window file → WritesReport job before after old new → EndsOk (AskedCount field window file) before after old new
+    → job ≡ count_job field window file → WritesReport job before after old new → EndsOk (room_of (AskedCount field window file)) before after old new
 count_ok job field window file before after old new is writes = record {
   folder_quiet = writes.folder_quiet;
   out_quiet = writes.out_quiet;
-  leaves = tt;
-  sound = λ told. (subst (λ (j : Declared). AreAllSound before j.files) is (writes.sound told)).0;
+  leaves = λ none. absurd (let no : 1 ≡ 0 = none in cc);
+  sound = λ told. (tt, subst (λ (j : Declared). AreAllSound before j.files) is (writes.sound told));
   whole = λ told out. writes.whole told out ∙ ap (λ text. old.written ++ text) (due_of_count job before field window file is);
 }
 
@@ -95,23 +89,22 @@ count_ok job field window file before after old new is writes = record {
 only_number : (k : ℕ) → k < 1 → k ≡ 0
 only_number k less = omega (arith, less)
 
-stops_of_count : (field : FieldRef) (window : ℕ) (file : List ℕ) (before after : FolderSeen) (old new : SinkSeen) (fault : RunFault)
+stops_of_count : (field : FieldRef) (window : ℕ) (file : List ℕ) (before after : FolderSeen) (old new : SinkSeen) (fault : ReportFault)
     → StopsReport (count_job field window file) before after old new fault
-    → EndsBy (AskedCount field window file) before after old new (first_number fault)
-stops_of_count field window file before after old new (Usage place) h = h
-stops_of_count field window file before after old new (BadJob fault) h = absurd h
-stops_of_count field window file before after old new (Malformed capture at what) h =
-    (only_number capture h.1, h.0, h.2, (λ told out. tt), λ out. h.3)
-stops_of_count field window file before after old new (ReadFault number) h = (
-  refl,
-  (λ told. subst (λ (k : ℕ). IsUnreadAt before after (file ∷ []) k) (only_number h.0 h.2) (h.3 told)),
-  (λ out. h.4),
+    → EndsBy (room_of (AskedCount field window file)) before after old new (of_count fault)
+stops_of_count field window file before after old new (Captures (Malformed capture at what)) (h, waited) =
+    (h.1, h.0, h.2, (λ told out. tt), λ out. waited)
+stops_of_count field window file before after old new (Captures (Unread capture)) (h, waited) = (
+  omega arith,
+  (λ told. subst (λ (k : ℕ). IsUnreadAt before after (file ∷ []) k) (only_number capture h.0) (h.1 told)),
+  (λ out. waited),
 )
-stops_of_count field window file before after old new WriteFault h = (h.0, h.1, tt, λ told. (h.2 told).0)
-stops_of_count field window file before after old new OutOfMemory h = (tt, λ out. h)
+stops_of_count field window file before after old new (Captures OutOfMemory) (h, waited) =
+    ((λ none. absurd (let no : 1 ≡ 0 = none in cc)), λ out. waited)
+stops_of_count field window file before after old new Unwritten h = (h.0, h.1, (λ none. absurd (let no : 1 ≡ 0 = none in cc)), λ told. (tt, h.2 told))
 
-pub count_stops : (job : Declared) (field : FieldRef) (window : ℕ) (file : List ℕ) (before after : FolderSeen) (old new : SinkSeen) (fault : RunFault)
+pub count_stops : (job : Declared) (field : FieldRef) (window : ℕ) (file : List ℕ) (before after : FolderSeen) (old new : SinkSeen) (fault : ReportFault)
     → job ≡ count_job field window file → StopsReport job before after old new fault
-    → EndsBy (AskedCount field window file) before after old new (first_number fault)
+    → EndsBy (room_of (AskedCount field window file)) before after old new (of_count fault)
 count_stops job field window file before after old new fault is stops =
     stops_of_count field window file before after old new fault (subst (λ (j : Declared). StopsReport j before after old new fault) is stops)

@@ -1,17 +1,22 @@
+//! The command `central`.
+
 ghost use Rattle.std.specs.Prelude.{◌≡◌, ◌<◌, Some, IsTrue, IfErr, MatchResult, length};
 ghost use Rattle.command_words.specs.Words.Asked.{AskedCentral};
 ghost use Rattle.ds_base.specs.Gain.{GainsPrefix};
 ghost use Rattle.ds_base.specs.Outside.{FolderStays, SinkStays};
 ghost use Rattle.summary_spec.specs.Job.{declared_of};
-ghost use Rattle.dshark_cli.specs.Jobs.{IsDeclared};
+ghost use Rattle.job_inputs.specs.Jobs.{IsDeclared};
+ghost use Rattle.dshark_cli.specs.Faults.{of_report};
 ghost use Rattle.dshark_cli.specs.Naming.{IfMalformed, IsNameAt, NamesFault};
-ghost use Rattle.dshark_cli.specs.Run.{EndsOk, EndsBy, due};
+ghost use Rattle.dshark_cli.specs.Reports.{IfCapture};
+ghost use Rattle.dshark_cli.specs.Rooms.{room_of};
+ghost use Rattle.dshark_cli.specs.Run.{EndsOk, EndsBy};
 
-use crate::capture_name::CaptureName;
-use crate::fault::{RunFault, Stop};
-use crate::job_file::read_job;
-use crate::job_report::write_report;
+use crate::faults::of_job;
+use crate::job_report::{ReportFault, write_report};
 use ds_base::{Folder, Sink};
+use job_inputs::{CapturesFault, read_job};
+use run_faults::{CaptureName, RunFault, Stop};
 use std::alloc::Global;
 use summary_spec::Job;
 
@@ -25,15 +30,15 @@ pub fn run_central<F: Folder, O: Sink>(
     ensures out_stays { SinkStays (O.seen out.old) (O.seen out.new) }
     ensures folder_stays { FolderStays (F.seen folder.old) (F.seen folder.new) }
     ensures prefix { IsTrue (F.seen folder.old).told → IsTrue (O.seen out.old).told →
-        GainsPrefix (O.seen out.old).written (O.seen out.new).written (due (Some (AskedCentral file.now)) (F.seen folder.old)) }
-    ensures named { IfErr result (λ stop. NamesFault (AskedCentral file.now) (F.seen folder.old) stop.name stop.fault) }
+        GainsPrefix (O.seen out.old).written (O.seen out.new).written ((room_of (AskedCentral file.now)).due (F.seen folder.old)) }
+    ensures named { IfErr result (λ stop. NamesFault (room_of (AskedCentral file.now)).opens (F.seen folder.old) stop.name stop.fault) }
     ensures ends { MatchResult result
-        (λ _. EndsOk (AskedCentral file.now) (F.seen folder.old) (F.seen folder.new) (O.seen out.old) (O.seen out.new))
-        (λ stop. EndsBy (AskedCentral file.now) (F.seen folder.old) (F.seen folder.new) (O.seen out.old) (O.seen out.new) stop.fault) }
+        (λ _. EndsOk (room_of (AskedCentral file.now)) (F.seen folder.old) (F.seen folder.new) (O.seen out.old) (O.seen out.new))
+        (λ stop. EndsBy (room_of (AskedCentral file.now)) (F.seen folder.old) (F.seen folder.new) (O.seen out.old) (O.seen out.new) stop.fault) }
 {
     let job = match read_job(alloc, file, folder) {
         Ok(job) => job,
-        Err(fault) => return Err(Stop::unnamed(fault)),
+        Err(fault) => return Err(Stop::unnamed(of_job(fault))),
     };
     match write_report(alloc, &job, folder, out) {
         Ok(()) => Ok(()),
@@ -41,19 +46,25 @@ pub fn run_central<F: Folder, O: Sink>(
     }
 }
 
-/// The stop by a fault of a job's report, with the name of the capture where one is malformed.
-fn stop_by(job: &Job, fault: RunFault) -> Stop
+/// The stop by a fault of a job's report, with the name of the capture where one is malformed. File k + 1
+/// is that of capture k.
+#[tactic(auto, using(job_inputs::proofs::JobCaptures::few_captures))]
+fn stop_by(job: &Job, fault: ReportFault) -> Stop
     requires declared { IsDeclared (declared_of job.now) }
-    requires capture { IfMalformed fault (λ capture. capture < length job.now.names.captures.items) }
-    ensures fault { result.fault ≡ fault }
-    ensures name { IfMalformed fault (IsNameAt (declared_of job.now).captures result.name) }
+    requires capture { IfCapture fault (λ capture. capture < length job.now.names.captures.items) }
+    ensures fault { result.fault ≡ of_report fault }
+    ensures name { IfMalformed (of_report fault) (IsNameAt (declared_of job.now).captures result.name) }
 {
     match fault {
-        RunFault::Malformed { capture, .. } => Stop {
-            fault,
+        ReportFault::Captures(CapturesFault::Malformed { capture, at, what }) => Stop {
+            fault: RunFault::Malformed { capture, at, what },
             name: name_of(job, capture),
         },
-        _ => Stop::unnamed(fault),
+        ReportFault::Captures(CapturesFault::Unread { capture }) => {
+            Stop::unnamed(RunFault::ReadFault { file: capture + 1 })
+        }
+        ReportFault::Captures(CapturesFault::OutOfMemory) => Stop::unnamed(RunFault::OutOfMemory),
+        ReportFault::Unwritten => Stop::unnamed(RunFault::WriteFault),
     }
 }
 

@@ -1,15 +1,19 @@
+//! The command `check`.
+
 ghost use Rattle.std.specs.Prelude.{◌≡◌, ◌++◌, Some, IsTrue, IfOk, MatchResult, codes};
 ghost use Rattle.command_words.specs.Words.Asked.{AskedCheck};
 ghost use Rattle.ds_base.specs.Gain.{GainsPrefix};
 ghost use Rattle.ds_base.specs.Outside.{FolderStays, SinkStays};
 ghost use Rattle.summary_spec.specs.Canonical.{canonical};
 ghost use Rattle.summary_spec.specs.Job.{declared_of};
-ghost use Rattle.dshark_cli.specs.Run.{EndsOk, EndsBy, due};
+ghost use Rattle.dshark_cli.specs.Rooms.{room_of};
+ghost use Rattle.dshark_cli.specs.Run.{EndsOk, EndsBy};
 
-use crate::fault::RunFault;
-use crate::job_file::read_job;
+use crate::faults::of_job;
 use crate::output::write_text;
 use ds_base::{Folder, OutOfMemory, Sink, Text};
+use job_inputs::read_job;
+use run_faults::RunFault;
 use std::alloc::Global;
 use summary_spec::Job;
 
@@ -23,12 +27,15 @@ pub fn run_check<F: Folder, O: Sink>(
     ensures out_stays { SinkStays (O.seen out.old) (O.seen out.new) }
     ensures folder_stays { FolderStays (F.seen folder.old) (F.seen folder.new) }
     ensures prefix { IsTrue (F.seen folder.old).told → IsTrue (O.seen out.old).told →
-        GainsPrefix (O.seen out.old).written (O.seen out.new).written (due (Some (AskedCheck file.now)) (F.seen folder.old)) }
+        GainsPrefix (O.seen out.old).written (O.seen out.new).written ((room_of (AskedCheck file.now)).due (F.seen folder.old)) }
     ensures ends { MatchResult result
-        (λ _. EndsOk (AskedCheck file.now) (F.seen folder.old) (F.seen folder.new) (O.seen out.old) (O.seen out.new))
-        (EndsBy (AskedCheck file.now) (F.seen folder.old) (F.seen folder.new) (O.seen out.old) (O.seen out.new)) }
+        (λ _. EndsOk (room_of (AskedCheck file.now)) (F.seen folder.old) (F.seen folder.new) (O.seen out.old) (O.seen out.new))
+        (EndsBy (room_of (AskedCheck file.now)) (F.seen folder.old) (F.seen folder.new) (O.seen out.old) (O.seen out.new)) }
 {
-    let job = read_job(alloc, file, folder)?;
+    let job = match read_job(alloc, file, folder) {
+        Ok(job) => job,
+        Err(fault) => return Err(of_job(fault)),
+    };
     let Ok(text) = line_of(alloc, &job) else {
         return Err(RunFault::OutOfMemory);
     };

@@ -1,14 +1,18 @@
+//! The command `count`.
+
 ghost use Rattle.std.specs.Prelude.{◌≡◌, ◌≤◌, Some, IsTrue, MatchResult};
 ghost use Rattle.command_words.specs.Words.Asked.{AskedCount};
 ghost use Rattle.ds_base.specs.Gain.{GainsPrefix};
 ghost use Rattle.ds_base.specs.Outside.{FolderStays, SinkStays};
-ghost use Rattle.dshark_cli.specs.Reports.{first_number};
-ghost use Rattle.dshark_cli.specs.Run.{EndsOk, EndsBy, due};
+ghost use Rattle.dshark_cli.specs.Faults.{of_count};
+ghost use Rattle.dshark_cli.specs.Rooms.{room_of};
+ghost use Rattle.dshark_cli.specs.Run.{EndsOk, EndsBy};
 
-use crate::fault::RunFault;
-use crate::job_report::write_report;
+use crate::job_report::{ReportFault, write_report};
 use ds_base::{Folder, Sink};
 use field_table::FieldRef;
+use job_inputs::CapturesFault;
+use run_faults::RunFault;
 use std::alloc::Global;
 use summary_spec::Job;
 
@@ -25,26 +29,30 @@ pub fn run_count<F: Folder, O: Sink>(
     ensures out_stays { SinkStays (O.seen out.old) (O.seen out.new) }
     ensures folder_stays { FolderStays (F.seen folder.old) (F.seen folder.new) }
     ensures prefix { IsTrue (F.seen folder.old).told → IsTrue (O.seen out.old).told →
-        GainsPrefix (O.seen out.old).written (O.seen out.new).written (due (Some (AskedCount field window file.now)) (F.seen folder.old)) }
+        GainsPrefix (O.seen out.old).written (O.seen out.new).written ((room_of (AskedCount field window file.now)).due (F.seen folder.old)) }
     ensures ends { MatchResult result
-        (λ _. EndsOk (AskedCount field window file.now) (F.seen folder.old) (F.seen folder.new) (O.seen out.old) (O.seen out.new))
-        (EndsBy (AskedCount field window file.now) (F.seen folder.old) (F.seen folder.new) (O.seen out.old) (O.seen out.new)) }
+        (λ _. EndsOk (room_of (AskedCount field window file.now)) (F.seen folder.old) (F.seen folder.new) (O.seen out.old) (O.seen out.new))
+        (EndsBy (room_of (AskedCount field window file.now)) (F.seen folder.old) (F.seen folder.new) (O.seen out.old) (O.seen out.new)) }
 {
     let Ok(job) = Job::count(alloc, field, window, file) else {
         return Err(RunFault::OutOfMemory);
     };
     match write_report(alloc, &job, folder, out) {
         Ok(()) => Ok(()),
-        Err(fault) => Err(of_first_file(fault)),
+        Err(fault) => Err(of_count(fault)),
     }
 }
 
-/// The fault of a command that opens no job: the file of its capture has number 0.
-fn of_first_file(fault: RunFault) -> RunFault
-    ensures { result ≡ first_number fault }
+/// No job is opened, so that the only file has number 0.
+fn of_count(fault: ReportFault) -> RunFault
+    ensures { result ≡ of_count fault }
 {
     match fault {
-        RunFault::ReadFault { .. } => RunFault::ReadFault { file: 0 },
-        fault => fault,
+        ReportFault::Captures(CapturesFault::Malformed { capture, at, what }) => {
+            RunFault::Malformed { capture, at, what }
+        }
+        ReportFault::Captures(CapturesFault::Unread { .. }) => RunFault::ReadFault { file: 0 },
+        ReportFault::Captures(CapturesFault::OutOfMemory) => RunFault::OutOfMemory,
+        ReportFault::Unwritten => RunFault::WriteFault,
     }
 }

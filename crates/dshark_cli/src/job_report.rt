@@ -1,24 +1,36 @@
+//! The report of a job over its captures: gathered, put together, and written as the last step.
+
 ghost use Rattle.std.specs.Prelude.{◌≡◌, IsTrue, MatchResult};
 ghost use Rattle.ds_base.specs.Gain.{GainsPrefix};
 ghost use Rattle.ds_base.specs.Outside.{FolderStays, SinkStays};
+ghost use Rattle.job_inputs.specs.Captures.{StopsCaptures};
 ghost use Rattle.summary_spec.specs.Job.{declared_of};
-ghost use Rattle.dshark_cli.specs.Reports.{report_in, WritesReport, StopsReport};
+ghost use Rattle.dshark_cli.specs.Reports.{report_in, ReportsCaptures, WritesReport, StopsReport};
 
-use crate::captures::report_captures;
-use crate::fault::RunFault;
-use crate::output::write_text;
-use ds_base::{Folder, Sink};
+use central_report::{accepted_reportable, central_text};
+use ds_base::{Folder, Sink, Text};
+use job_inputs::{CapturesFault, gather_captures};
+use output_text::write_all;
 use std::alloc::Global;
 use summary_spec::Job;
 
+/// Why the report of a job was not written.
+#[derive(Clone, Copy)]
+pub enum ReportFault {
+    /// The captures were not all gathered, or there was no memory for the report.
+    Captures(CapturesFault),
+    /// The output could not be written.
+    Unwritten,
+}
+
 /// Writes the report of a job over its captures. All captures are read to their ends before the first
-/// byte is written. File k + 1 of a fault is that of capture k.
+/// byte is written.
 pub fn write_report<F: Folder, O: Sink>(
     alloc: Global,
     job: &Job,
     folder: &mut F,
     out: &mut O,
-) -> Result<(), RunFault>
+) -> Result<(), ReportFault>
     ensures out_stays { SinkStays (O.seen out.old) (O.seen out.new) }
     ensures folder_stays { FolderStays (F.seen folder.old) (F.seen folder.new) }
     ensures prefix { IsTrue (F.seen folder.old).told → IsTrue (O.seen out.old).told →
@@ -27,6 +39,32 @@ pub fn write_report<F: Folder, O: Sink>(
         (λ _. WritesReport (declared_of job.now) (F.seen folder.old) (F.seen folder.new) (O.seen out.old) (O.seen out.new))
         (StopsReport (declared_of job.now) (F.seen folder.old) (F.seen folder.new) (O.seen out.old) (O.seen out.new)) }
 {
-    let text = report_captures(alloc, job, folder)?;
-    write_text(out, text.as_str())
+    let text = match report_captures(alloc, job, folder) {
+        Ok(text) => text,
+        Err(fault) => return Err(ReportFault::Captures(fault)),
+    };
+    match write_all(out, text.as_str().as_bytes()) {
+        Ok(()) => Ok(()),
+        Err(_) => Err(ReportFault::Unwritten),
+    }
+}
+
+/// The report of a job over its captures.
+fn report_captures<F: Folder>(
+    alloc: Global,
+    job: &Job,
+    folder: &mut F,
+) -> Result<Text, CapturesFault>
+    ensures stays { FolderStays (F.seen folder.old) (F.seen folder.new) }
+    ensures ends { MatchResult result
+        (λ text. ReportsCaptures (declared_of job.now) (F.seen folder.old) (F.seen folder.new) text.items)
+        (StopsCaptures (declared_of job.now).files (F.seen folder.old) (F.seen folder.new)) }
+{
+    let gathered = gather_captures(alloc, job, folder)?;
+    // By this law the list is such as the report asks for.
+    accepted_reportable();
+    match central_text(alloc, job, &gathered.accepted, &gathered.counts) {
+        Ok(text) => Ok(text),
+        Err(_) => Err(CapturesFault::OutOfMemory),
+    }
 }

@@ -3,42 +3,20 @@
 //! the real files and streams and ends with its status.
 #![tactic(auto)]
 
-mod capture_name;
-mod captures;
 mod central;
-#[cfg(test)]
-mod central_faults;
-#[cfg(test)]
-mod central_files;
-#[cfg(test)]
-mod central_tests;
 mod check;
-#[cfg(test)]
-mod check_tests;
-mod complaint;
 mod count;
-mod ends;
-mod fault;
-mod gather;
-mod job_complaint;
-mod job_file;
+mod faults;
 mod job_report;
-mod line;
-mod open;
 mod output;
-mod printer;
 mod stack;
-mod stack_lines;
-#[cfg(test)]
-mod stack_tests;
 #[cfg(test)]
 mod tests;
 mod tool;
 
-use complaint::complain;
 use ds_base::{ListChooser, OpenGate};
-use ends::{FileFolder, StreamSink};
-use fault::{RunFault, Stop};
+use real_ends::{FileFolder, StreamSink};
+use run_faults::{RunFault, Stop, complain};
 use std::env;
 use std::process::ExitCode;
 use tool::run_tool;

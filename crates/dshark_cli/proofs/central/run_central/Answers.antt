@@ -1,6 +1,6 @@
 use Rattle.summary_spec.specs.Job.{declared_of}
-use Rattle.dshark_cli.proofs.Gaining.{gains_nothing}
-use Rattle.dshark_cli.proofs.Centrals.{central_prefix, central_ok, central_stops, central_named}
+use Rattle.output_text.proofs.Gaining.{gains_nothing}
+use Rattle.dshark_cli.proofs.Centrals.{central_prefix, central_ok, central_stops, central_refused, central_named, refused_named}
 use Rattle.dshark_cli.proofs.central.run_central.Goals as goal
 
 pub returns-in-Err-clause-prefix : goal.returns-in-Err-clause-prefix
@@ -29,3 +29,11 @@ pub returns-clause-ends : goal.returns-clause-ends
 returns-clause-ends g c =
     rw c.stop_by.ensures.fault (central_stops (g.F.Folder.seen c.args.folder.now) (g.F.Folder.seen c.read_job.new.folder) (g.F.Folder.seen c.write_report.new.folder) (g.O.Sink.seen c.args.out.now) (g.O.Sink.seen c.write_report.new.out) c.args.file.now c.in-Ok.job c.in-Ok.ensures.stays c.in-Ok.ensures.ends
     c.in-Err-write_report.fault c.in-Err-write_report.ensures.ends)
+
+pub returns-in-Err-clause-named : goal.returns-in-Err-clause-named
+returns-in-Err-clause-named g c =
+    rw (c.unnamed.ensures.fault, c.of_job.ensures) (refused_named c.args.file.now c.unnamed.result.name (g.F.Folder.seen c.args.folder.now) c.in-Err.fault)
+
+pub returns-in-Err-clause-ends : goal.returns-in-Err-clause-ends
+returns-in-Err-clause-ends g c =
+    rw (c.unnamed.ensures.fault, c.of_job.ensures) (central_refused c.args.file.now (g.F.Folder.seen c.args.folder.now) (g.F.Folder.seen c.read_job.new.folder) (g.O.Sink.seen c.args.out.now) c.in-Err.fault c.in-Err.ensures.ends)

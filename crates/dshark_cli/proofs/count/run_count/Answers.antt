@@ -1,5 +1,5 @@
 use Rattle.summary_spec.specs.Job.{declared_of}
-use Rattle.dshark_cli.proofs.Gaining.{gains_nothing}
+use Rattle.output_text.proofs.Gaining.{gains_nothing}
 use Rattle.dshark_cli.proofs.Reported.{count_prefix, count_ok, count_stops}
 use Rattle.dshark_cli.proofs.count.run_count.Goals as goal
 
@@ -23,5 +23,5 @@ returns-clause-prefix g c folder out =
 
 pub returns-clause-ends : goal.returns-clause-ends
 returns-clause-ends g c =
-    rw c.of_first_file.ensures (count_stops (declared_of c.in-Ok.job) c.args.field c.args.window c.args.file.now (g.F.Folder.seen c.args.folder.now) (g.F.Folder.seen c.write_report.new.folder) (g.O.Sink.seen c.args.out.now) (g.O.Sink.seen c.write_report.new.out)
+    rw c.of_count.ensures (count_stops (declared_of c.in-Ok.job) c.args.field c.args.window c.args.file.now (g.F.Folder.seen c.args.folder.now) (g.F.Folder.seen c.write_report.new.folder) (g.O.Sink.seen c.args.out.now) (g.O.Sink.seen c.write_report.new.out)
     c.in-Err.fault c.in-Ok.ensures c.in-Err.ensures.ends)

@@ -1,6 +1,0 @@
-use Rattle.dshark_cli.specs.Stacks.{header_text}
-use Rattle.dshark_cli.proofs.Lists.{one_more_piece}
-use Rattle.dshark_cli.proofs.stack_lines.push_headers.Goals as goal
-
-pub loop-i-preserved : goal.loop-i-preserved
-loop-i-preserved c = one_more_piece header_text c.args.stack.now c.loop-i.i _ c.loop-i.text.items _ _ c.place.ensures c.in_ok-push_header.ensures c.loop-i.invariant

@@ -1,8 +1,0 @@
-use Rattle.std.proofs.Common.{◌≡◌, ◌++◌, drop}
-use Rattle.std.specs.List.{flat_map}
-use Rattle.dshark_cli.specs.Stacks.{header_text}
-use Rattle.dshark_cli.proofs.stack_lines.push_headers.Given as goal
-
--- what was put and what is left are together all headers
-abbrev pub invariant-loop-i : goal.invariant-loop-i
-invariant-loop-i l = l.text.items ++ flat_map header_text (drop l.i l.stack) ≡ l.fn.text.items ++ flat_map header_text l.stack

@@ -1,0 +1,10 @@
+//! The commands over files in memory, from the words to the report, the fault's line and the status.
+
+mod captures;
+mod central;
+mod check;
+mod count;
+mod faults;
+mod harness;
+mod reports;
+mod stack;
