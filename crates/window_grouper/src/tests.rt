@@ -1,3 +1,6 @@
+//! The groups of lists by hand, and of summaries that arrive in many orders.
+mod arrivals;
+
 use crate::{OpenGroups, all_grouped, central, is_in_stamp_order, one_cut, one_grouping};
 use ds_base::{Group, GroupList, Nums, OutOfMemory, Stamp, Summary, SummaryList, Text};
 use std::alloc::Global;
