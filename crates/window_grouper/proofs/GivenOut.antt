@@ -11,9 +11,9 @@ use Rattle.ds_base.specs.declared.summary.Summary.{Summary}
 use Rattle.window_grouper.specs.Groups.{members_of, groups_of, IsGroup}
 use Rattle.window_grouper.specs.Cut.{firsts}
 use Rattle.window_grouper.specs.Open.{Open, HasPlaced}
-use Rattle.window_grouper.specs.Over.{EndsBefore, ReachesTo, IsOver, IsOpen, FirstIsOpen, BegunBy}
+use Rattle.window_grouper.specs.Over.{EndsBefore, IsOver, BegunBy}
 use Rattle.window_grouper.specs.Placing.{takes, single, grown, placed, HaveBegun}
-use Rattle.window_grouper.proofs.Covers.{precedes_time, groups_of-IsGroups}
+use Rattle.window_grouper.proofs.Covers.{precedes_time}
 use Rattle.window_grouper.proofs.Members.{behind_each, all_grouped}
 use Rattle.window_grouper.proofs.Pass.{groups_of-push}
 use Rattle.window_grouper.proofs.Placed.{over_takes_not}
@@ -132,39 +132,12 @@ placed_given old new g time same held over window front given before h later = r
 
 -- ---- what is held
 
--- where the first group is not over, no later one is
-still_open : (window time : ℕ) (m : List Summary) (gs : List Copies) → AllByRecursion (IsGroup window) gs
-    → InStampOrder (firsts (m ∷ members_of gs)) → ReachesTo window time m → AllByRecursion (IsOpen window time) gs
-still_open window time m [] each ordered reaches = tt
-still_open window time [] (g ∷ gs) each ordered reaches = absurd reaches
-still_open window time (f ∷ fs) (g ∷ gs) each ordered reaches =
-    by_members g.members each.0.filled ordered (λ h r. still_open window time g.members gs each.1 h r) where
-      by_members : (m : List Summary) → 0 < length m → InStampOrder (f ∷ firsts (m ∷ members_of gs))
-          → (InStampOrder (firsts (m ∷ members_of gs)) → ReachesTo window time m → AllByRecursion (IsOpen window time) gs)
-          → ReachesTo window time m × AllByRecursion (IsOpen window time) gs
-      by_members [] filled h rest = absurd (omega arith)
-      by_members (k ∷ ks) filled h rest =
-          let later : f.at.time ≤ k.at.time = precedes_time f k h.0.0 in
-          let own : time ≤ k.at.time + window = omega arith in
-          (own, rest h.1 own)
-
 pub ordered_held : (given held : List Copies) → InStampOrder (firsts (members_of (given ++ held))) → InStampOrder (firsts (members_of held))
 ordered_held [] held h = h
 ordered_held (g ∷ given) held h = ordered_held given held (tail g.members (members_of (given ++ held)) h) where
   tail : (m : List Summary) (ms : List (List Summary)) → InStampOrder (firsts (m ∷ ms)) → InStampOrder (firsts ms)
   tail [] ms h = h
   tail (s ∷ ss) ms h = h.1
-
--- once `next_closed` has answered None, no group that is held is over
-pub all_open : (window time : ℕ) (front : List Summary) (given held : List Copies) → InStampOrder front
-    → groups_of window front ≡ given ++ held → FirstIsOpen window time held → AllByRecursion (IsOpen window time) held
-all_open window time front given [] ordered e first = tt
-all_open window time front given (g ∷ gs) ordered e first =
-    let each : AllByRecursion (IsGroup window) (g ∷ gs) =
-    all_behind (IsGroup window) given (g ∷ gs) (subst (AllByRecursion (IsGroup window)) e (all_grouped window front ordered).0) in
-    let firsts_ordered : InStampOrder (firsts (g.members ∷ members_of gs)) =
-    ordered_held given (g ∷ gs) (subst (λ (ks : List Copies). InStampOrder (firsts (members_of ks))) e (groups_of-IsGroups window front ordered).ordered) in
-    (first, still_open window time g.members gs each.1 firsts_ordered first)
 
 -- ---- a whole list
 

@@ -1,5 +1,5 @@
 -- A list whose stamps differ has one list in stamp order, which insertion computes.
-use Rattle.std.proofs.Common.{ℕ, Bool, true, false, cond, List, [], ◌∷◌, ◌++◌, ◌≡◌, ◌<◌, ◌+◌, ◌⊎◌, suc, zero, refl, sym, ap, subst, ◌∙◌, arith, ⊎_elim, inl, inr, length, drop, get_or}
+use Rattle.std.proofs.Common.{ℕ, Bool, true, false, cond, List, [], ◌∷◌, ◌++◌, ◌≡◌, ◌<◌, ◌+◌, ◌⊎◌, refl, sym, ap, subst, ◌∙◌, arith, ⊎_elim, inl, inr, length, drop, get_or}
 use Rattle.std.specs.Prelude.{Some, slice_get}
 use Rattle.std.specs.List.{Contains}
 use Rattle.std.specs.List.Sorted.{IsPermutation}
@@ -27,11 +27,6 @@ pub drop-at : (l : List Summary) (i : ℕ) (s : Summary) → slice_get l i ≡ S
 drop-at l i s h = drop_more l i s (slice_get_within l i s h) ∙ ap (λ (x : Summary). x ∷ drop (i + 1) l) (get_or_from_slice_get l i s s h)
 
 -- ---- stamps that differ
-
-pub differ-drop : (k : ℕ) (l : List Summary) → StampsDiffer l → StampsDiffer (drop k l)
-differ-drop zero l h = h
-differ-drop (suc k) [] h = tt
-differ-drop (suc k) (s ∷ ss) h = differ-drop k ss h.1
 
 -- what holds with s in front of x, and with s behind it, holds where insertion puts s
 placed_by : (P : List Summary → Type 0) (s x : Summary) (xs : List Summary) → Precedes s.at x.at ⊎ Precedes x.at s.at

@@ -1,9 +1,8 @@
 -- What is true of each group of a list.
-use Rattle.std.proofs.Common.{ℕ, Bool, true, false, not, List, [], ◌∷◌, ◌++◌, ◌≡◌, ◌≤◌, ◌+◌, refl, sym, ap, subst, ◌∙◌, arith, ⊎_elim, length}
+use Rattle.std.proofs.Common.{ℕ, Bool, true, false, not, List, [], ◌∷◌, ◌++◌, ◌≡◌, ◌≤◌, ◌+◌, refl, sym, ap, ◌∙◌, arith, ⊎_elim, length}
 use Rattle.std.specs.Prelude.{filter}
-use Rattle.std.specs.List.{AllByRecursion, All}
+use Rattle.std.specs.List.{AllByRecursion}
 use Rattle.std.proofs.lemmas.Bool.{cases_Bool}
-use Rattle.std.proofs.lemmas.List.Elements.{All-cons, All-head, All-tail, All-filter}
 use Rattle.std.proofs.lemmas.List.Sums.{sum_by-cons, sum_by-append}
 use Rattle.ds_base.specs.Copies.{Copies}
 use Rattle.ds_base.specs.Order.{PrecedesAll, InStampOrder}
@@ -67,17 +66,6 @@ behind_each window P fs (s ∷ l) h =
     (λ (free : is_covered window fs s ≡ false). rw free ((h.0, filter_all (covers window s) P l h.1), behind_each window P (s ∷ fs) l h.1))
     (cases_Bool (is_covered window fs s))
 
-behind_all : (window : ℕ) (P : Summary → Type 0) → (fs l : List Summary) → All P l
-    → AllByRecursion (λ g. All P g.members) (groups_behind window fs l)
-behind_all window P fs [] h = tt
-behind_all window P fs (s ∷ l) h =
-    let rest : All P l = All-tail P s l h in
-    ⊎_elim
-    (λ (covered : is_covered window fs s ≡ true). rw covered (behind_all window P fs l rest))
-    (λ (free : is_covered window fs s ≡ false).
-    rw free (All-cons P s (filter (covers window s) l) (All-head P s l h) (All-filter (covers window s) P l rest), behind_all window P (s ∷ fs) l rest))
-    (cases_Bool (is_covered window fs s))
-
 -- ---- how many members there are
 
 -- the summaries of l that no first takes
@@ -122,30 +110,6 @@ free_of-none window (s ∷ l) = ap (λ (k : List Summary). s ∷ k) (free_of-non
 pub all_grouped : (window : ℕ) (l : List Summary) → AllGrouped window l
 all_grouped window l h =
     (behind-IsGroup window [] l h, behind-members_in window [] l h ∙ ap (λ (k : List Summary). length k) (free_of-none window l))
-
--- ---- one group among those of a list
-
-all_at : (Q : Copies → Type 0) → (given rest : List Copies) (g : Copies) → AllByRecursion Q (given ++ g ∷ rest) → Q g
-all_at Q [] rest g h = h.0
-all_at Q (k ∷ given) rest g h = all_at Q given rest g h.1
-
--- a group of a list in stamp order has members, of its key, in stamp order and within the window of the first
-pub group-IsGroup : (window : ℕ) (l : List Summary) (given rest : List Copies) (g : Copies) → InStampOrder l
-    → groups_of window l ≡ given ++ g ∷ rest → IsGroup window g
-group-IsGroup window l given rest g h e =
-    all_at (IsGroup window) given rest g (subst (AllByRecursion (IsGroup window)) e (behind-IsGroup window [] l h))
-
--- what is true of all summaries is true of the members of a group
-pub group_all : (window : ℕ) (P : Summary → Type 0) → (l : List Summary) (given rest : List Copies) (g : Copies) → All P l
-    → groups_of window l ≡ given ++ g ∷ rest → All P g.members
-group_all window P l given rest g h e =
-    all_at (λ k. All P k.members) given rest g (subst (AllByRecursion (λ (k : Copies). All P k.members)) e (behind_all window P [] l h))
-
-pub group_each : (window : ℕ) (P : Summary → Type 0) → (l : List Summary) (given rest : List Copies) (g : Copies) → AllByRecursion P l
-    → groups_of window l ≡ given ++ g ∷ rest → AllByRecursion P g.members
-group_each window P l given rest g h e =
-    all_at (λ k. AllByRecursion P k.members) given rest g
-    (subst (AllByRecursion (λ (k : Copies). AllByRecursion P k.members)) e (behind_each window P [] l h))
 
 -- groups that were given out, and those that were not, have together as many members as there are summaries
 pub members_in-given : (window : ℕ) (l : List Summary) (given rest : List Copies) → InStampOrder l → groups_of window l ≡ given ++ rest

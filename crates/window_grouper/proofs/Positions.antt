@@ -26,13 +26,6 @@ places_more (d ∷ ds) ps i h within =
     let at : slice_get l i ≡ Some (get_or l i d) = slice_get-get_or l i d within in
     subst (ArePlaces l (ps ++ i ∷ [])) (sym (take-at l i (get_or l i d) at)) (places-push l ps (take i l) i (get_or l i d) h at)
 
--- there are as many places as summaries
-pub length-places : (l : List Summary) (ps : List ℕ) (ss : List Summary) → ArePlaces l ps ss → length ps ≡ length ss
-length-places l [] [] h = refl
-length-places l [] (x ∷ xs) h = absurd h
-length-places l (q ∷ qs) [] h = absurd h
-length-places l (q ∷ qs) (x ∷ xs) h = ap suc (length-places l qs xs h.1)
-
 -- the place at i holds the summary at i
 pub place_at : (l : List Summary) (ps : List ℕ) (ss : List Summary) (i : ℕ) → ArePlaces l ps ss → i < length ps
     → (s : Summary) × (slice_get ss i ≡ Some s) × (slice_get l (get_or ps i 0) ≡ Some s)

@@ -38,20 +38,3 @@ fn equal_times_are_ordered_by_capture_and_then_by_number(rt: HostRuntime) -> Res
     assert_eq!(rt; order.as_slice(), &[2, 3, 1, 0][..]);
     Ok(())
 }
-
-#[test]
-fn a_list_in_order_gives_its_positions_in_turn(rt: HostRuntime) -> Result<(), Fail> {
-    let mut list = SummaryList::new(rt.alloc());
-    let Ok(()) = list.push(stamped(3, 1, 0)) else {
-        return Err(Fail::from("out of memory"));
-    };
-    let Ok(()) = list.push(stamped(3, 1, 4)) else {
-        return Err(Fail::from("out of memory"));
-    };
-    let Ok(()) = list.push(stamped(5, 0, 2)) else {
-        return Err(Fail::from("out of memory"));
-    };
-    let order = stamp_order(rt.alloc(), &list)?;
-    assert_eq!(rt; order.as_slice(), &[0, 1, 2][..]);
-    Ok(())
-}
