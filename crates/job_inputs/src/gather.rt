@@ -89,7 +89,7 @@ fn gather_records<S: Source>(
     }
 }
 
-/// Takes the next record up.
+/// Takes the next record up, and puts its summary at the end of `accepted` where it is accepted.
 fn take_up(
     job: &Job,
     r: &RecordRef<'_>,
@@ -105,5 +105,11 @@ fn take_up(
     ensures capture { capture_of tally.new ≡ capture_of tally.old }
     ensures records { OnOk result (records_taken tally.new ≡ records_taken tally.old + 1) }
 {
-    tally.take(job, r, accepted)
+    let Some(summary) = tally.take_up(job, r) else {
+        return Ok(());
+    };
+    let Ok(()) = accepted.push(summary) else {
+        return Err(OutOfMemory);
+    };
+    Ok(())
 }

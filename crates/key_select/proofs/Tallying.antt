@@ -24,11 +24,6 @@ fates_after-append job capture earlier (q ∷ rs) later =
     ap (λ fates. fate_of job capture earlier q ∷ fates) (fates_after-append job capture (earlier ++ q ∷ []) rs later
     ∙ ap (λ (xs : List Captured). fates_after job capture (earlier ++ q ∷ []) rs ++ fates_after job capture xs later) (append_assoc earlier (q ∷ []) rs))
 
--- the fates of some records and one more
-pub fates_behind-append : (job : Declared) (capture : ℕ) (earlier rs : List Captured) (r : Captured)
-    → fates_after job capture earlier (rs ++ r ∷ []) ≡ fates_after job capture earlier rs ++ fate_of job capture (earlier ++ rs) r ∷ []
-fates_behind-append job capture earlier rs r = fates_after-append job capture earlier rs (r ∷ [])
-
 pub summaries_of-append : (xs ys : List Fate) → summaries_of (xs ++ ys) ≡ summaries_of xs ++ summaries_of ys
 summaries_of-append [] ys = refl
 summaries_of-append (Unmatched ∷ xs) ys = summaries_of-append xs ys

@@ -58,10 +58,6 @@ accepted_after job capture earlier rs = summaries_of (fates_after job capture ea
 abbrev pub accepted_of : Declared → (capture : ℕ) → List Captured → List Summary
 accepted_of job capture rs = accepted_after job capture [] rs
 
--- the same of one record
-abbrev pub accepted_behind : Declared → (capture : ℕ) → (earlier : List Captured) → Captured → List Summary
-accepted_behind job capture earlier r = accepted_after job capture earlier (r ∷ [])
-
 -- how the records of a capture fared
 abbrev pub counts_of : Declared → (capture : ℕ) → List Captured → (cut : Bool) → Counts
 counts_of job capture rs cut = record {

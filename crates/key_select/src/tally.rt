@@ -1,16 +1,16 @@
 //! How the records of one capture fare: none, late or accepted.
-ghost use Rattle.std.specs.Prelude.{◌≡◌, ◌≤◌, ◌<◌, ◌+◌, ◌∷◌, ◌++◌, [], ◌^◌, ℕ, List, Some, length, max, option_to_list, IfSome, OnOk, OnErr};
+ghost use Rattle.std.specs.Prelude.{◌≡◌, ◌≤◌, ◌<◌, ◌+◌, ◌∷◌, ◌++◌, [], ◌^◌, ℕ, List, Some, length, max, option_to_list, IfSome};
 ghost use Rattle.std.proofs.Props.{props};
 ghost use Rattle.pcap_reader.specs.Captured.{Captured};
 ghost use Rattle.pcap_reader.specs.Lent.{captured, IsLawful};
 ghost use Rattle.summary_spec.specs.Declaration.{Declared};
 ghost use Rattle.summary_spec.specs.Job.{declared_of};
-ghost use Rattle.key_select.specs.Fates.{accepted_after, accepted_behind, counts_of};
+ghost use Rattle.key_select.specs.Fates.{accepted_after, counts_of};
 
 use crate::late::is_late;
-use crate::summary::{select, select_at};
+use crate::summary::select_at;
 use crate::time::record_time;
-use ds_base::{Counts, OutOfMemory, Summary, SummaryList};
+use ds_base::{Counts, Summary};
 use pcap_reader::RecordRef;
 use summary_spec::Job;
 
@@ -78,50 +78,6 @@ impl Tally {
         }
         self.accepted += 1;
         Some(summary)
-    }
-
-    /// Takes the next record up, and puts its summary at the end of `accepted` where that is accepted.
-    /// Where that wants memory and there is none, all stays as it was. `take_up` wants none.
-    pub fn take(
-        &mut self,
-        job: &Job,
-        r: &RecordRef<'_>,
-        accepted: &mut SummaryList,
-    ) -> Result<(), OutOfMemory>
-        requires capture { capture_of self.old < length job.now.names.captures.items }
-        requires lawful { IsLawful (captured r.now) }
-        requires few { records_taken self.old < 2 ^ 63 }
-        ensures tallies { OnOk result ((capture : ℕ) (taken : List Captured) →
-            Tallies (declared_of job.now) capture self.old taken → Tallies (declared_of job.now) capture self.new (taken ++ captured r.now ∷ [])) }
-        ensures accepted { OnOk result ((capture : ℕ) (taken : List Captured) → Tallies (declared_of job.now) capture self.old taken →
-            accepted.new.items ≡ accepted.old.items ++ accepted_behind (declared_of job.now) capture taken (captured r.now)) }
-        ensures capture { capture_of self.new ≡ capture_of self.old }
-        ensures records { OnOk result (records_taken self.new ≡ records_taken self.old + 1) }
-        ensures spare { OnOk result (accepted.old.spare ≤ accepted.new.spare + 1) }
-        ensures refused { OnErr result (self.new ≡ self.old) }
-        ensures kept { OnErr result (accepted.new.items ≡ accepted.old.items) }
-        ensures full { OnErr result (accepted.old.spare ≡ 0) }
-    {
-        match select(job, self.capture, r) {
-            None => {
-                self.pass(r.time);
-                self.unmatched = self.unmatched + 1;
-                Ok(())
-            }
-            Some(summary) => {
-                if is_late(r.time, job.skew, self.newest) {
-                    self.pass(r.time);
-                    self.late = self.late + 1;
-                    return Ok(());
-                }
-                let Ok(()) = accepted.push(summary) else {
-                    return Err(OutOfMemory);
-                };
-                self.pass(r.time);
-                self.accepted += 1;
-                Ok(())
-            }
-        }
     }
 
     /// The greatest time of the records that were taken up, in nanoseconds since 1970. None: there was none.

@@ -1,30 +1,41 @@
-use Rattle.std.proofs.Common.{ℕ, List, ◌∷◌, ◌++◌, [], ◌≡◌, ◌∙◌, Result, Ok, Err, OnOk, ap, sym, append_assoc}
-use Rattle.key_select.specs.Fates.{accepted_behind, accepted_of, fate_of, fates_of, summaries_of}
-use Rattle.key_select.proofs.Tallying.{fates_behind-append, summaries_of-append}
+use Rattle.std.proofs.Common.{ℕ, List, ◌∷◌, ◌++◌, [], ◌≡◌, ◌∙◌, ap, sym, append_assoc}
+use Rattle.std.proofs.lemmas.List.{append-nil}
+use Rattle.std.specs.Prelude.{option_to_list}
+use Rattle.ds_base.specs.declared.summary.Summary.{Summary}
+use Rattle.key_select.specs.Fates.{accepted_after, accepted_of}
+use Rattle.key_select.specs.declared.tally.Tally.{Tally}
+use Rattle.key_select.specs.Tally.{Tallies}
+use Rattle.key_select.proofs.Tallying.{accepted_parts}
 use Rattle.pcap_reader.specs.Captured.{Captured}
 use Rattle.pcap_reader.specs.Lent.{captured}
 use Rattle.summary_spec.specs.Declaration.{Declared}
 use Rattle.summary_spec.specs.Job.{declared_of}
+use Rattle.job_inputs.specs.Gathering.{Collects}
 use Rattle.job_inputs.proofs.gather.take_up.Goals as goal
 
--- what is accepted of some records and one more
-accepted-append : (job : Declared) (capture : ℕ) (taken : List Captured) (r : Captured)
-    → accepted_of job capture (taken ++ r ∷ []) ≡ accepted_of job capture taken ++ accepted_behind job capture taken r
-accepted-append job capture taken r =
-    ap summaries_of (fates_behind-append job capture [] taken r) ∙ summaries_of-append (fates_of job capture taken) (fate_of job capture taken r ∷ [])
+-- a record more was taken up, and what is accepted of it went to the end of the list
+collected : (job : Declared) (capture : ℕ) (tally : Tally) (start list longer more : List Summary) (taken : List Captured) (r : Captured)
+    → list ≡ start ++ accepted_of job capture taken → Tallies job capture tally (taken ++ r ∷ []) → more ≡ accepted_after job capture taken (r ∷ [])
+    → longer ≡ list ++ more → Collects job capture tally start longer (taken ++ r ∷ [])
+collected job capture tally start list longer more taken r earlier tallies is put = record {
+  tallies = tallies;
+  accepted =
+      put ∙ ap (λ ss. list ++ ss) is ∙ ap (λ ss. ss ++ accepted_after job capture taken (r ∷ [])) earlier
+      ∙ append_assoc start (accepted_of job capture taken) (accepted_after job capture taken (r ∷ []))
+      ∙ ap (λ ss. start ++ ss) (sym (accepted_parts job capture taken (r ∷ [])));
+}
 
-on_both : {X E P Q R : Type 0} (result : Result X E) → (P → Q → R) → OnOk result P → OnOk result Q → OnOk result R
-on_both (Ok x) f p q = f p q
-on_both (Err e) f p q = tt
+pub returns-in_default-clause-collects : goal.returns-in_default-clause-collects
+returns-in_default-clause-collects c capture start taken h =
+    let list = c.args.accepted.now.items in
+    collected (declared_of c.args.job.now) capture _ start list _ [] taken (captured c.args.r.now) h.accepted
+    (c.take_up.ensures.tallies capture taken h.tallies)
+    (ap option_to_list (sym c.in_default.is) ∙ c.take_up.ensures.accepted capture taken h.tallies)
+    (sym (append-nil list))
 
 pub returns-clause-collects : goal.returns-clause-collects
-returns-clause-collects c = on_both c.take.result (λ tallies accepted capture start taken h.
-    let job = declared_of c.args.job.now in
-    let r = captured c.args.r.now in
-    record {
-      tallies = tallies capture taken h.tallies;
-      accepted =
-          accepted capture taken h.tallies ∙ ap (λ ss. ss ++ accepted_behind job capture taken r) h.accepted
-          ∙ append_assoc start (accepted_of job capture taken) (accepted_behind job capture taken r)
-          ∙ ap (λ ss. start ++ ss) (sym (accepted-append job capture taken r));
-    }) c.take.ensures.tallies c.take.ensures.accepted
+returns-clause-collects c capture start taken h =
+    collected (declared_of c.args.job.now) capture _ start c.args.accepted.now.items _ (c.in-Some.summary ∷ []) taken (captured c.args.r.now) h.accepted
+    (c.take_up.ensures.tallies capture taken h.tallies)
+    (ap option_to_list (sym c.in-Some.is) ∙ c.take_up.ensures.accepted capture taken h.tallies)
+    c.in-Ok.ensures.pushed
