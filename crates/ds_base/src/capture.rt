@@ -23,9 +23,27 @@ pub enum PcapFault {
     /// Record `number` says that it captured more than 262,144 bytes.
     #[error("record {number} has {len} captured bytes, more than 262144")]
     TooLong { number: u64, len: u32 },
-    /// More than 2^40 records.
-    #[error("more than 2^40 records")]
+    /// More than 2^40 records, or more than 2^36 blocks of a pcapng file.
+    #[error("more records than are read")]
     TooMany,
+    /// A block of a pcapng file has a total length that its type cannot have.
+    #[error("no block of its type has {len} bytes")]
+    NgLength { len: u32 },
+    /// The last length of a block differs from its first.
+    #[error("the block ends with another length, {tail}")]
+    NgTail { tail: u32 },
+    /// A packet is of an interface that no block of its section describes.
+    #[error("interface {id} is not described")]
+    NgInterface { id: u32 },
+    /// The bytes of packet block `number`, padded, do not fit into the block.
+    #[error("the {len} bytes of packet {number} do not fit into its block")]
+    NgPacket { number: u64, len: u32 },
+    /// The resolution of an interface is finer than can be.
+    #[error("no interface has the resolution {r}")]
+    NgResolution { r: u8 },
+    /// The time of packet block `number` is before 1970, or an hour before 2^63 nanoseconds or later.
+    #[error("the time of packet {number} is out of range")]
+    NgTime { number: u64 },
 }
 
 /// The first malformed place of a capture file: a byte's number from 0, and what is wrong there.

@@ -3,7 +3,7 @@ use Rattle.std.specs.Prelude.{ℕ, List, Bool, true, false, length, take, drop, 
 use Rattle.byteorder.specs.Endian.{big_number, little_number}
 use Rattle.ds_base.specs.declared.capture.Bad.{Bad}
 use Rattle.ds_base.specs.declared.capture.PcapFault.{PcapFault}
-use Rattle.ds_base.specs.declared.capture.PcapFault.TheVariants.{PcapNg, Magic, ShortHeader, Version, LinkType, TooLong, TooMany}
+use Rattle.ds_base.specs.declared.capture.PcapFault.TheVariants.{PcapNg, Magic, ShortHeader, Version, LinkType, TooLong, TooMany, NgLength, NgTail, NgInterface, NgPacket, NgResolution, NgTime}
 use Rattle.pcap_reader.specs.declared.format.Endian.{Endian}
 use Rattle.pcap_reader.specs.declared.format.Endian.TheVariants.{Little, Big}
 use Rattle.pcap_reader.specs.declared.format.Precision.{Precision}
@@ -46,6 +46,12 @@ is_short_header (Version major minor) = false
 is_short_header (LinkType link) = false
 is_short_header (TooLong at len) = false
 is_short_header TooMany = false
+is_short_header (NgLength len) = false
+is_short_header (NgTail tail) = false
+is_short_header (NgInterface id) = false
+is_short_header (NgPacket number len) = false
+is_short_header (NgResolution r) = false
+is_short_header (NgTime number) = false
 
 -- the link types that are read: Ethernet and raw IP
 abbrev pub is_link : ℕ → Bool

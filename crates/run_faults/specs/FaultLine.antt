@@ -2,7 +2,7 @@
 use Rattle.std.specs.Prelude.{ℕ, List, [], ◌++◌, Option, Some, None, codes}
 use Rattle.std.specs.Fmt.{decimal}
 use Rattle.ds_base.specs.declared.capture.PcapFault.{PcapFault}
-use Rattle.ds_base.specs.declared.capture.PcapFault.TheVariants.{PcapNg, Magic, ShortHeader, Version, LinkType, TooLong, TooMany}
+use Rattle.ds_base.specs.declared.capture.PcapFault.TheVariants.{PcapNg, Magic, ShortHeader, Version, LinkType, TooLong, TooMany, NgLength, NgTail, NgInterface, NgPacket, NgResolution, NgTime}
 use Rattle.run_faults.specs.JobLine.{job_text}
 use Rattle.run_faults.specs.declared.fault.Stop.{Stop}
 use Rattle.run_faults.specs.declared.fault.RunFault.{RunFault}
@@ -17,6 +17,12 @@ what_text (Version major minor) = codes "version " ++ decimal major ++ codes "."
 what_text (LinkType link) = codes "link type " ++ decimal link
 what_text (TooLong number len) = codes "record " ++ decimal number ++ codes " length " ++ decimal len
 what_text TooMany = codes "records"
+what_text (NgLength len) = codes "block length " ++ decimal len
+what_text (NgTail tail) = codes "block tail " ++ decimal tail
+what_text (NgInterface id) = codes "interface " ++ decimal id
+what_text (NgPacket number len) = codes "record " ++ decimal number ++ codes " packet " ++ decimal len
+what_text (NgResolution r) = codes "resolution " ++ decimal r
+what_text (NgTime number) = codes "record " ++ decimal number ++ codes " time"
 
 -- the fault, without the name of the program; the name is that of the capture
 abbrev pub fault_text : (name : List ℕ) → RunFault → List ℕ

@@ -104,5 +104,32 @@ fn push_what(line: &mut Line, what: &PcapFault)
             line.push_number(u128::from(*len));
         }
         PcapFault::TooMany => line.push(b"records"),
+        PcapFault::NgLength { len } => {
+            line.push(b"block length ");
+            line.push_number(u128::from(*len));
+        }
+        PcapFault::NgTail { tail } => {
+            line.push(b"block tail ");
+            line.push_number(u128::from(*tail));
+        }
+        PcapFault::NgInterface { id } => {
+            line.push(b"interface ");
+            line.push_number(u128::from(*id));
+        }
+        PcapFault::NgPacket { number, len } => {
+            line.push(b"record ");
+            line.push_number(u128::from(*number));
+            line.push(b" packet ");
+            line.push_number(u128::from(*len));
+        }
+        PcapFault::NgResolution { r } => {
+            line.push(b"resolution ");
+            line.push_number(u128::from(*r));
+        }
+        PcapFault::NgTime { number } => {
+            line.push(b"record ");
+            line.push_number(u128::from(*number));
+            line.push(b" time");
+        }
     }
 }

@@ -5,8 +5,8 @@ ghost use Rattle.job_values.specs.declared.fault.JobWhat.TheVariants as faults;
 ghost use Rattle.run_faults.specs.JobLine.{member_text, expression_what, job_what, job_text};
 
 use crate::line::Line;
-use query_syntax::QueryWhat;
 use job_values::{JobFault, JobWhat, Member};
+use query_syntax::QueryWhat;
 
 /// Puts the text of a job's fault at the end.
 pub fn push_job(line: &mut Line, fault: &JobFault)

@@ -5,12 +5,12 @@
 
 mod capture_name;
 mod complaint;
+mod exit_status;
 mod fault;
 mod job_complaint;
 mod line;
-mod exit_status;
 
 pub use capture_name::CaptureName;
 pub use complaint::complain;
-pub use fault::{RunFault, Stop};
 pub use exit_status::status;
+pub use fault::{RunFault, Stop};

@@ -1,0 +1,3 @@
+-- Which definitions stand here.
+pub mod Kept
+pub mod Number
