@@ -76,13 +76,16 @@ impl OpenGroups {
             HasPlaced self.old window front given time → time ≤ s.now.at.time → InStampOrder (front ++ s.now ∷ []) →
             HasPlaced self.new window (front ++ s.now ∷ []) given time) }
     {
-        place(
+        let Ok(()) = place(
             &mut self.groups,
             &mut self.newest,
             self.given,
             self.window,
             s,
-        )
+        ) else {
+            return Err(OutOfMemory);
+        };
+        Ok(())
     }
 
     /// The first group that has begun, where its window is over at `time`: its first's time plus the
