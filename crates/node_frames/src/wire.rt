@@ -1,5 +1,6 @@
 //! What stands on a link: a frame, or the seal that stands there for its end.
 use crate::Frame;
+use thiserror::Error;
 
 /// The SHA-256 (FIPS 180-4) of bytes.
 #[derive(Clone, Copy, Debug, PartialEq, Eq)]
@@ -26,5 +27,6 @@ pub enum Wire {
 }
 
 /// The bytes spell no frame.
-#[derive(Clone, Copy, Debug, PartialEq, Eq)]
+#[derive(Clone, Copy, Debug, PartialEq, Eq, Error)]
+#[error("the bytes spell no frame")]
 pub struct FrameFault;

@@ -1,3 +1,5 @@
+//! Laws about cuts, groups and orders. Each is a call that does nothing.
+
 ghost use Rattle.std.specs.Prelude.{ℕ, Bool, List};
 ghost use Rattle.ds_base.specs.Copies.{Copies};
 ghost use Rattle.ds_base.specs.declared.summary.Summary.{Summary};

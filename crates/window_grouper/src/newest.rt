@@ -1,3 +1,5 @@
+//! The newest group of each key.
+
 ghost use Rattle.std.specs.Prelude.{ℕ, List, ◌≡◌, None, OnOk, OnErr};
 ghost use Rattle.window_grouper.specs.Newest.{newest_of, AreKept, Puts, Forgets};
 

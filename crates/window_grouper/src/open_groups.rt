@@ -1,3 +1,5 @@
+//! Groups that are given out one after another, each once its window is over.
+
 ghost use Rattle.std.specs.Prelude.{ℕ, List, ◌≡◌, ◌≤◌, ◌++◌, ◌∷◌, [], OnOk, OnErr, IfSome, IfNone, MatchBool};
 ghost use Rattle.ds_base.specs.Copies.{Copies, copies_of};
 ghost use Rattle.ds_base.specs.Order.{InStampOrder};

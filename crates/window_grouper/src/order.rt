@@ -1,3 +1,5 @@
+//! The order of stamps, as a list of positions.
+
 ghost use Rattle.std.specs.Prelude.{◌≡◌, ◌↔◌, IsTrue, IfOk, List, map};
 ghost use Rattle.ds_base.specs.Order.{InStampOrder};
 ghost use Rattle.ds_base.specs.declared.summary.Summary.{Summary};

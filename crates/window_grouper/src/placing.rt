@@ -1,3 +1,5 @@
+//! Where a summary goes among the open groups.
+
 ghost use Rattle.std.specs.Prelude.{◌≡◌, ◌≤◌, ◌+◌, ◌<◌, ◌%◌, ◌^◌, ◌++◌, ◌∷◌, [], Some, IfSome, IfNone, OnOk, OnErr, slice_get, slice_set, length};
 ghost use Rattle.ds_base.specs.Copies.{Copies};
 ghost use Rattle.window_grouper.specs.Newest.{AreKept, Puts};

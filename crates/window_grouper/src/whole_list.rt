@@ -1,3 +1,5 @@
+//! The groups of a whole list at once: the plain program beside `OpenGroups`.
+
 ghost use Rattle.std.specs.Prelude.{◌≡◌, IfOk, map};
 ghost use Rattle.ds_base.specs.Copies.{copies_of};
 ghost use Rattle.ds_base.specs.Order.{InStampOrder};

@@ -1,3 +1,5 @@
+//! The order of stamps, over lists whose times are equal.
+
 ghost use Rattle.std.specs.Prelude.{◌≡◌};
 
 use crate::{one_order, stamp_order};
