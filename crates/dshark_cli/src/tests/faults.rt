@@ -8,7 +8,10 @@ use super::reports::{END, LOOP, ONE, PACKET_LINE, job, report};
 use super::stack::{LINES, tunnels};
 use ds_base::PcapFault;
 use run_faults::RunFault;
+use std::alloc::{AllocError, Global};
+use std::process::Abort;
 use std::test::Fail;
+use std::thread::Threads;
 
 const COUNT: &str = "count ipv4[0].id 1000000 a";
 
@@ -85,59 +88,57 @@ fn a_malformed_capture_is_named_with_its_place(rt: HostRuntime) -> Result<(), Fa
     }
     // Of a job, the first one.
     let plain = job(alloc, "0", LOOP, "")?;
+    let j = plain.as_slice();
     let a = file(alloc, A)?;
     let b = file(alloc, B)?;
     let c = file(alloc, C)?;
-    let too_long = PcapFault::TooLong {
-        number: 3,
-        len: 262_145,
+    let (a, b, c) = (a.as_slice(), b.as_slice(), c.as_slice());
+    let half = &HEADER[..23];
+    let line = "dshark: capture s1: byte 0: short header\n";
+    names_capture(&rt, alloc, j, &[], b, c, short(0, 0), line)?;
+    let line = "dshark: capture s1: byte 23: short header\n";
+    names_capture(&rt, alloc, j, half, b, c, short(0, 23), line)?;
+    let line = "dshark: capture s3: byte 0: short header\n";
+    names_capture(&rt, alloc, j, a, b, &[], short(2, 0), line)?;
+    let line = "dshark: capture s2: byte 23: short header\n";
+    names_capture(&rt, alloc, j, a, half, &[], short(1, 23), line)?;
+    let fault = RunFault::Malformed {
+        capture: 0,
+        at: 206,
+        what: PcapFault::TooLong {
+            number: 3,
+            len: 262_145,
+        },
     };
-    let short = PcapFault::ShortHeader { len: 23 };
-    let none = PcapFault::ShortHeader { len: 0 };
-    let rows: [([&[u8]; 3], u32, u64, PcapFault, &str); 5] = [
-        (
-            [&[], b.as_slice(), c.as_slice()],
-            0,
-            0,
-            none,
-            "dshark: capture s1: byte 0: short header\n",
-        ),
-        (
-            [&HEADER[..23], b.as_slice(), c.as_slice()],
-            0,
-            23,
-            short,
-            "dshark: capture s1: byte 23: short header\n",
-        ),
-        (
-            [a.as_slice(), b.as_slice(), &[]],
-            2,
-            0,
-            none,
-            "dshark: capture s3: byte 0: short header\n",
-        ),
-        (
-            [a.as_slice(), &HEADER[..23], &[]],
-            1,
-            23,
-            short,
-            "dshark: capture s2: byte 23: short header\n",
-        ),
-        (
-            [long.as_slice(), b.as_slice(), c.as_slice()],
-            0,
-            206,
-            too_long,
-            "dshark: capture s1: byte 206: record 3 length 262145\n",
-        ),
-    ];
-    for (captures, capture, at, what, line) in rows {
-        let [a, b, c] = captures;
-        let named: [Named<'_>; 4] = [("j", plain.as_slice()), ("a", a), ("b", b), ("c", c)];
-        let left = run_over(&rt, alloc, "central j", &named, CALM)?;
-        assert_eq!(rt; left.fault, Some(RunFault::Malformed { capture, at, what }));
-        stops(&rt, &left, 2, line, b"");
+    let line = "dshark: capture s1: byte 206: record 3 length 262145\n";
+    names_capture(&rt, alloc, j, long.as_slice(), b, c, fault, line)?;
+    Ok(())
+}
+
+/// That a capture of this number ends inside its header.
+fn short(capture: u32, len: u64) -> RunFault {
+    RunFault::Malformed {
+        capture,
+        at: len,
+        what: PcapFault::ShortHeader { len },
     }
+}
+
+/// The job over these three captures ends with this fault and this line, and writes nothing.
+fn names_capture<'a, R: Threads + Sync + Abort>(
+    rt: &R,
+    alloc: Global,
+    j: &'a [u8],
+    a: &'a [u8],
+    b: &'a [u8],
+    c: &'a [u8],
+    fault: RunFault,
+    line: &str,
+) -> Result<(), AllocError> {
+    let named: [Named<'a>; 4] = [("j", j), ("a", a), ("b", b), ("c", c)];
+    let left = run_over(rt, alloc, "central j", &named, CALM)?;
+    assert_eq!(rt; left.fault, Some(fault));
+    stops(rt, &left, 2, line, b"");
     Ok(())
 }
 
