@@ -21,5 +21,5 @@ mod step;
 mod tests;
 mod times;
 
-pub use packet::NgRecord;
+pub use packet::{Found, InBlock, NgRecord};
 pub use reader::NgReader;

@@ -23,18 +23,23 @@ pub struct NgRecord<'a> {
     pub bytes: &'a [u8],
 }
 
-/// A packet that was found in a block.
+/// A packet that was found in a block: what `NgRecord` says of it, and where its bytes lie.
 #[derive(Clone, Copy, Debug)]
-pub(crate) struct Found {
-    pub(crate) number: u64,
-    pub(crate) interface: u32,
-    pub(crate) link: u32,
-    pub(crate) orig: u32,
-    pub(crate) time: u64,
+pub struct Found {
+    /// The packet's number among the packet blocks of the file, counted from 0, below 2^40.
+    pub number: u64,
+    /// Its interface, numbered from 0 in its section.
+    pub interface: u32,
+    /// The link type of the interface.
+    pub link: u32,
+    /// How many bytes the packet had.
+    pub orig: u32,
+    /// When the packet was captured, in nanoseconds since 1970.
+    pub time: u64,
     /// Where its bytes begin in the block.
-    pub(crate) from: usize,
+    pub from: usize,
     /// How many there are.
-    pub(crate) len: usize,
+    pub len: usize,
 }
 
 /// A block that was read.
@@ -48,16 +53,16 @@ pub(crate) struct Passed {
 
 /// A packet in a block that was read.
 #[derive(Clone, Copy, Debug)]
-pub(crate) struct InBlock {
+pub struct InBlock {
     /// How long the block is.
-    pub(crate) len: usize,
+    pub len: usize,
     /// The packet.
-    pub(crate) packet: Found,
+    pub packet: Found,
 }
 
 impl Found {
     /// The packet with its bytes, which lie in the block.
-    pub(crate) fn lend(self, block: &[u8]) -> NgRecord<'_>
+    pub fn lend(self, block: &[u8]) -> NgRecord<'_>
         requires { self.from + self.len ≤ length block.now }
         ensures { lent result ≡ packet_of self block.now }
     {

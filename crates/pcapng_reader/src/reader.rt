@@ -3,7 +3,7 @@ ghost use Rattle.std.specs.Prelude.{◌≡◌, ◌+◌, ◌*◌, ◌≤◌, ◌<
 ghost use Rattle.std.specs.Borrow.{sem};
 ghost use Rattle.pcapng_reader.specs.Packet.{Packet};
 ghost use Rattle.pcapng_reader.specs.Good.{most_blocks, ng_packets, ng_bad, ng_cut};
-ghost use Rattle.pcapng_reader.specs.Reader.{Reader, StandsFor, IsWaiting, IsLawful, Gives, Passes, Advances, lent, is_short_header, bytes_fed, bytes_held, packets_given};
+ghost use Rattle.pcapng_reader.specs.Reader.{Reader, StandsFor, IsWaiting, IsLawful, Gives, Passes, Advances, last_block, lent, is_short_header, bytes_fed, bytes_held, packets_given};
 
 use crate::packet::{InBlock, NgRecord, Passed};
 use crate::state::State;
@@ -99,8 +99,9 @@ impl NgReader {
         }
     }
 
-    /// Goes on to the next packet, and drops what was used up where there is none.
-    fn advance(&mut self) -> Result<Option<InBlock>, Bad>
+    /// Goes on to the next packet as `next` does, and tells where it lies in the block that was read last, which
+    /// `last_block` lends. A caller that passes over packets calls this one, since no bytes are lent meanwhile.
+    pub fn advance(&mut self) -> Result<Option<InBlock>, Bad>
         ensures { Advances self.old result self.new }
     {
         'blocks: loop {
@@ -115,6 +116,15 @@ impl NgReader {
                 }));
             }
         }
+    }
+
+    /// The last `len` bytes that were read: the block that was read last, if it has that length. They stay until the
+    /// next call that takes the reader as `&mut`.
+    pub fn last_block(&self, len: usize) -> &[u8]
+        requires { len ≤ length self.now.spent }
+        ensures { result.now ≡ last_block len self.now }
+    {
+        self.bytes.last_spent(len)
     }
 
     /// Reads the block at the front of the bytes that were not yet read. None: no whole one is there.
