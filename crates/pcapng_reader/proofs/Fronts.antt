@@ -1,5 +1,5 @@
 -- What stands at the front of bytes stays when bytes follow.
-use Rattle.std.proofs.Common.{◌≡◌, ◌≤◌, ◌<◌, ℕ, ◌+◌, List, ◌++◌, length, take, drop, Bool, true, false, refl, sym, ap, ◌∙◌, arith, length-append, cond, inl, inr, Option, Some, None, Result, Ok, Err}
+use Rattle.std.proofs.Common.{◌≡◌, ◌≤◌, ◌<◌, ℕ, List, ◌++◌, length, take, true, false, refl, sym, ap, ◌∙◌, arith, length-append, inl, inr, Option, Some, None, Result, Ok, Err}
 use Rattle.std.specs.Prelude.{nat_lt, ◌⊎◌}
 use Rattle.std.proofs.lemmas.Bool.{cases_lt}
 use Rattle.std.proofs.lemmas.Bool.Decides.{nat_tests}
@@ -8,7 +8,7 @@ use Rattle.ds_base.specs.declared.capture.Bad.{Bad}
 use Rattle.pcapng_reader.specs.declared.head.Head.{Head}
 use Rattle.pcapng_reader.specs.State.{State, Block}
 use Rattle.pcapng_reader.specs.Blocks.{head_of}
-use Rattle.pcapng_reader.specs.Steps.{whole_block, found, step_by_head, step}
+use Rattle.pcapng_reader.specs.Steps.{step_by_head, step}
 
 pub below : (n m : ℕ) → n < m → nat_lt n m ≡ true
 below n m h = grind (arith, nat_tests)

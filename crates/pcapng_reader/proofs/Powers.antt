@@ -1,6 +1,6 @@
 -- Powers that divide.
 use native.Mathlib.Numerals.{unary_clauses}
-use Rattle.std.proofs.Common.{◌≡◌, ◌<◌, ◌≤◌, ℕ, zero, suc, ◌^◌, ◌*◌, arith, refl, subst}
+use Rattle.std.proofs.Common.{◌<◌, ℕ, zero, suc, ◌^◌, arith}
 
 pub ten_positive : (n : ℕ) → 0 < 10 ^ n
 ten_positive zero = omega arith

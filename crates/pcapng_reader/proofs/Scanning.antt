@@ -1,5 +1,5 @@
 -- The options of a block, one after the other.
-use Rattle.std.proofs.Common.{◌≡◌, ℕ, zero, suc, ◌+◌, List, drop, true, false, Option, Some, None, refl, ap, ◌∙◌, sym}
+use Rattle.std.proofs.Common.{◌≡◌, ℕ, suc, ◌+◌, List, drop, true, false, Some, None, refl, ap, ◌∙◌, sym}
 use Rattle.std.proofs.lemmas.List.{drop-drop}
 use Rattle.capture_bytes.specs.declared.endian.Endian.{Endian}
 use Rattle.pcapng_reader.specs.Options.{ends_options, option_size, is_option, option_at}

@@ -1,19 +1,17 @@
 -- How a reader goes on to stand for what was fed and given.
-use Rattle.std.proofs.Common.{◌≡◌, ◌≤◌, ◌<◌, ℕ, suc, ◌+◌, ◌-◌, ◌^◌, List, [], ◌∷◌, ◌++◌, length, take, drop, true, false, Option, Some, None, Ok, Err, MatchOption, refl, sym, ap, subst, ◌∙◌, arith, inl, inr, append_assoc, length-append, length-drop}
+use Rattle.std.proofs.Common.{◌≡◌, ◌≤◌, ◌<◌, ℕ, ◌+◌, ◌-◌, List, [], ◌∷◌, ◌++◌, length, take, drop, true, Option, Some, None, MatchOption, refl, sym, ap, subst, ◌∙◌, arith, inl, inr, length-append, length-drop}
 use Rattle.std.specs.Prelude.{is_none, nat_lt, ◌&&◌, option_map, option_to_list}
 use Rattle.std.proofs.lemmas.Bool.{cases_lt}
-use Rattle.std.proofs.lemmas.Bool.Decides.{nat_tests}
 use Rattle.std.proofs.lemmas.List.{append-nil, drop_at, length-take-le}
 use Rattle.ds_base.specs.declared.capture.Bad.{Bad}
-use Rattle.ds_base.specs.declared.capture.PcapFault.TheVariants.{ShortHeader, TooMany}
+use Rattle.ds_base.specs.declared.capture.PcapFault.TheVariants.{ShortHeader}
 use Rattle.pcapng_reader.specs.declared.packet.Found.{Found}
 use Rattle.pcapng_reader.specs.declared.packet.Passed.{Passed}
-use Rattle.pcapng_reader.specs.declared.packet.InBlock.{InBlock}
 use Rattle.pcapng_reader.specs.Packet.{Packet}
 use Rattle.pcapng_reader.specs.Packets.{packet_of}
 use Rattle.pcapng_reader.specs.State.{State, Block, bad_at, start}
 use Rattle.pcapng_reader.specs.Steps.{step}
-use Rattle.pcapng_reader.specs.Good.{Walk, after_packets, most_blocks, walk, whole_walk, bad_or_short, short_file, ng_packets, ng_bad, ng_cut}
+use Rattle.pcapng_reader.specs.Good.{Walk, after_packets, most_blocks, walk, whole_walk, bad_or_short, short_file, ng_bad, ng_cut}
 use Rattle.pcapng_reader.specs.Reader.{Reader, StandsFor, IsWaiting, bytes_fed, bytes_left, bytes_held, packets_given, is_short_header, GivesNext, GivesNone, GivesBad, packet_in, IsWithin, IsPassed, IsAtEnd, IsFaulty, IsAlong, last_block, IsFound}
 use Rattle.pcapng_reader.proofs.Fronts.{below, above}
 use Rattle.pcapng_reader.proofs.Walking.{walk_block, walk_fault, walk_wait, walk_many, walk_end, after_twice}

@@ -1,6 +1,6 @@
 -- The front of a block (pcapng specification section 3.1): its type, its total length, and of a section block
 -- the order of bytes (section 4.1).
-use Rattle.std.specs.Prelude.{ℕ, ◌+◌, ◌/◌, ◌*◌, ◌%◌, List, Bool, length, Option, Some, None, Result, Ok, Err, nat_lt, ◌==◌, ◌&&◌, ◌||◌, not, if◌then◌else◌}
+use Rattle.std.specs.Prelude.{ℕ, ◌+◌, ◌/◌, ◌*◌, ◌%◌, List, Bool, Option, Some, None, Result, Ok, Err, nat_lt, ◌==◌, ◌&&◌, not, if◌then◌else◌}
 use Rattle.ds_base.specs.declared.capture.Bad.{Bad}
 use Rattle.ds_base.specs.declared.capture.PcapFault.TheVariants.{PcapNg, NgLength}
 use Rattle.capture_bytes.specs.declared.endian.Endian.{Endian}

@@ -1,6 +1,6 @@
 -- What a whole pcapng file holds: the packets that stand before its first malformed place or its end, that place,
 -- and whether it ends inside a block.
-use Rattle.std.specs.Prelude.{ℕ, zero, suc, ◌+◌, List, [], ◌∷◌, ◌++◌, Bool, length, drop, Option, Some, None, Result, Ok, Err, is_none, option_to_list, nat_lt, ◌&&◌, if◌then◌else◌}
+use Rattle.std.specs.Prelude.{ℕ, zero, suc, List, [], ◌++◌, Bool, length, drop, Option, Some, None, Result, Ok, Err, is_none, option_to_list, nat_lt, ◌&&◌, if◌then◌else◌}
 use Rattle.ds_base.specs.declared.capture.Bad.{Bad}
 use Rattle.ds_base.specs.declared.capture.PcapFault.TheVariants.{ShortHeader, TooMany}
 use Rattle.pcapng_reader.specs.Packet.{Packet}

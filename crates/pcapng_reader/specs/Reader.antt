@@ -1,5 +1,5 @@
 -- What contracts see of a reader, and which bytes and packets it stands for.
-use Rattle.std.specs.Prelude.{◌≡◌, ℕ, ◌+◌, ◌-◌, ◌*◌, ◌≤◌, ◌<◌, ◌^◌, List, [], ◌∷◌, ◌++◌, true, false, Bool, length, take, drop, Option, Some, None, Result, Ok, Err, MatchOption, MatchResult, IfSome, option_map, option_to_list}
+use Rattle.std.specs.Prelude.{◌≡◌, ℕ, ◌+◌, ◌-◌, ◌≤◌, ◌<◌, ◌^◌, List, [], ◌∷◌, ◌++◌, true, false, Bool, length, take, drop, Option, Some, None, Result, Ok, Err, MatchOption, MatchResult, IfSome, option_map, option_to_list}
 use Rattle.ds_base.specs.declared.capture.Bad.{Bad}
 use Rattle.ds_base.specs.declared.capture.PcapFault.{PcapFault}
 use Rattle.ds_base.specs.declared.capture.PcapFault.TheVariants.{PcapNg, Magic, ShortHeader, Version, LinkType, TooLong, TooMany, NgLength, NgTail, NgInterface, NgPacket, NgResolution, NgTime}
@@ -12,7 +12,7 @@ use Rattle.pcapng_reader.specs.State.{State, bad_at}
 use Rattle.pcapng_reader.specs.Packets.{packet_of}
 use Rattle.pcapng_reader.specs.Steps.{step}
 use Rattle.pcapng_reader.specs.Times.{latest}
-use Rattle.pcapng_reader.specs.Good.{Walk, after_packets, most_blocks, walk, whole_walk, ng_packets, ng_bad, ng_cut}
+use Rattle.pcapng_reader.specs.Good.{after_packets, most_blocks, walk, whole_walk, ng_packets, ng_bad}
 
 -- `rest` are the bytes that were fed and not yet read, `spent` are bytes in front of them that are still in memory.
 -- `blocks` blocks were read, after which `state` is known.

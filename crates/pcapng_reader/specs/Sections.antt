@@ -1,5 +1,5 @@
 -- The section block (pcapng specification section 4.1).
-use Rattle.std.specs.Prelude.{ℕ, ◌+◌, List, [], Option, Some, None, Result, Ok, Err, ◌==◌, if◌then◌else◌}
+use Rattle.std.specs.Prelude.{ℕ, ◌+◌, List, [], Some, None, Result, Ok, Err, ◌==◌, if◌then◌else◌}
 use Rattle.ds_base.specs.declared.capture.Bad.{Bad}
 use Rattle.ds_base.specs.declared.capture.PcapFault.TheVariants.{Version}
 use Rattle.capture_bytes.specs.Number.{number}

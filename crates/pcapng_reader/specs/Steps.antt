@@ -1,5 +1,5 @@
 -- One block of a pcapng file (pcapng specification section 3).
-use Rattle.std.specs.Prelude.{◌≡◌, ◌≤◌, ℕ, ◌+◌, ◌-◌, List, length, take, Option, Some, None, Result, Ok, Err, MatchOption, MatchResult, option_map, nat_lt, ◌==◌, if◌then◌else◌}
+use Rattle.std.specs.Prelude.{◌≡◌, ℕ, ◌+◌, ◌-◌, List, length, take, Option, Some, None, Result, Ok, Err, MatchOption, MatchResult, option_map, nat_lt, ◌==◌, if◌then◌else◌}
 use Rattle.ds_base.specs.declared.capture.Bad.{Bad}
 use Rattle.ds_base.specs.declared.capture.PcapFault.TheVariants.{NgTail}
 use Rattle.capture_bytes.specs.Number.{number}

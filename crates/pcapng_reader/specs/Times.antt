@@ -1,5 +1,5 @@
 -- The time of a packet (pcapng specification sections 4.2 and 4.3).
-use Rattle.std.specs.Prelude.{ℕ, ◌+◌, ◌-◌, ◌*◌, ◌/◌, ◌^◌, Bool, Option, Some, None, nat_lt, not, ◌&&◌, if◌then◌else◌}
+use Rattle.std.specs.Prelude.{ℕ, ◌+◌, ◌-◌, ◌*◌, ◌/◌, ◌^◌, Bool, Option, Some, None, nat_lt, not, if◌then◌else◌}
 
 -- no time is as late as this, so that an hour more stays below 2^63
 abbrev pub latest : ℕ

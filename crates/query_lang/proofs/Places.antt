@@ -1,5 +1,5 @@
 -- A member of a group, by its place.
-use Rattle.std.proofs.Common.{◌≡◌, ℕ, ◌+◌, ◌<◌, List, ◌∷◌, length, drop, Some, sym, ap, subst, ◌∙◌, All, slice_get}
+use Rattle.std.proofs.Common.{◌≡◌, ℕ, ◌+◌, ◌<◌, List, ◌∷◌, length, drop, Some, sym, ap, ◌∙◌, All, slice_get}
 use Rattle.std.proofs.lemmas.Option.{slice_get-map}
 use Rattle.ds_base.proofs.Places.{drop_at}
 use Rattle.ds_base.specs.declared.summary.Summary.{Summary}

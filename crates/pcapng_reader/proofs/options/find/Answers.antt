@@ -1,4 +1,4 @@
-use Rattle.std.proofs.Common.{◌≡◌, ◌∙◌, ◌+◌, ◌-◌, ℕ, suc, sym, ap, arith, List, length, drop, true, false, length-drop}
+use Rattle.std.proofs.Common.{◌≡◌, ◌∙◌, ◌+◌, ◌-◌, ℕ, sym, ap, arith, List, length, drop, length-drop}
 use Rattle.pcapng_reader.specs.Options.{ends_options, option_length, option_size, is_option}
 use Rattle.pcapng_reader.specs.Blocks.{padded}
 use Rattle.pcapng_reader.proofs.Scanning.{scan_none, scan_ends, scan_hit, scan_miss}

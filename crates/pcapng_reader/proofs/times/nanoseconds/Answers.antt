@@ -1,6 +1,5 @@
-use Rattle.std.proofs.Common.{rules, ◌≡◌, ◌<◌, ◌≤◌, ◌^◌, ℕ, ◌*◌, ◌/◌, ◌-◌, arith, subst, sym, ap}
+use Rattle.std.proofs.Common.{◌<◌, ℕ, arith, subst, sym}
 use Rattle.std.proofs.lemmas.Nat.{pow_below}
-use Rattle.std.specs.Prelude.{IsTrue}
 use Rattle.pcapng_reader.proofs.Powers.{ten_positive}
 use Rattle.pcapng_reader.proofs.times.nanoseconds.Goals as goal
 

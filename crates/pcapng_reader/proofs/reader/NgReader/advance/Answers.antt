@@ -1,7 +1,6 @@
-use Rattle.std.proofs.Common.{◌≡◌, ◌∙◌, sym, ap, subst, ℕ, List, length, arith}
+use Rattle.std.proofs.Common.{◌≡◌, ◌∙◌, sym, ap, subst, length, arith}
 use Rattle.std.proofs.lemmas.Result.{err_from_is_err_and}
 use Rattle.ds_base.specs.declared.capture.Bad.{Bad}
-use Rattle.pcapng_reader.specs.State.{State}
 use Rattle.pcapng_reader.specs.Reader.{Reader, GivesBad}
 use Rattle.pcapng_reader.proofs.Standing.{gives_bad, none_end, found_pass, along_pass}
 use Rattle.pcapng_reader.proofs.reader.NgReader.advance.Goals as goal

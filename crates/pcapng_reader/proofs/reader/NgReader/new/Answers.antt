@@ -1,6 +1,4 @@
-use Rattle.std.proofs.Common.{◌≡◌, ap, sym, subst, List, ℕ, []}
-use Rattle.pcapng_reader.specs.State.{State}
-use Rattle.pcapng_reader.specs.Reader.{Reader, StandsFor, IsWaiting}
+use Rattle.std.proofs.Common.{[]}
 use Rattle.pcapng_reader.proofs.Standing.{starts, start_waits}
 use Rattle.pcapng_reader.proofs.reader.NgReader.new.Goals as goal
 
