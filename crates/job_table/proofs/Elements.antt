@@ -1,12 +1,11 @@
 -- Lists that are seen through a function, from a place on.
-use Rattle.std.proofs.Common.{◌≡◌, ℕ, zero, suc, ◌+◌, ◌<◌, List, [], ◌∷◌, ◌++◌, All, length, drop, Some, refl, sym, ap, ◌∙◌, slice_get, get_or, arith, Err}
+use Rattle.std.proofs.Common.{◌≡◌, ℕ, zero, suc, ◌+◌, ◌<◌, List, [], ◌∷◌, ◌++◌, All, length, drop, refl, sym, ap, ◌∙◌, get_or, arith, Err}
 use Rattle.job_values.specs.Said.{fault_at}
 use Rattle.job_values.specs.declared.member.Member.TheVariants.{QueryRulesRows}
 use Rattle.job_values.specs.declared.fault.JobWhat.TheVariants.{WrongKind}
 use Rattle.job_table.specs.QueryTable.{both, pair}
 use Rattle.std.proofs.lemmas.List.{at_drop_more}
 use Rattle.std.proofs.lemmas.List.Elements.{All-append}
-use Rattle.std.proofs.lemmas.Option.{slice_get_within, get_or_from_slice_get}
 use Rattle.serde_json.specs.Data.{item}
 use Rattle.serde_json.specs.View.{view, items_view}
 use Rattle.serde_json.specs.declared.value.Value.{Value}

@@ -10,7 +10,11 @@ use Rattle.query_lang.specs.declared.names.Scope.TheVariants.{Group}
 use Rattle.job_values.specs.Parsed.{parsed}
 use Rattle.job_table.specs.Question.{Question, Everything, Loops, Drops, Paths, Rewrites, Tests, Manner, Same, Less, Table, Ruling}
 
--- the longest window and skew
+-- the newest version of a declaration; the oldest is 1
+abbrev pub newest_version : ℕ
+newest_version = 2
+
+-- the longest window, skew and offset
 abbrev pub longest : ℕ
 longest = hour
 

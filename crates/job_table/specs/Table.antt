@@ -1,19 +1,21 @@
 -- The table of the members of a declaration, a definition a row, in the order of the table. Each says
 -- what a value is there, or its first fault: it is missing, of another kind, or breaks a rule.
-use Rattle.std.specs.Prelude.{ℕ, ◌==◌, ◌&&◌, Bool, false, not, List, [], ◌∷◌, ◌++◌, length, Ok, codes}
+use Rattle.std.specs.Prelude.{ℕ, ◌==◌, ◌&&◌, Bool, false, not, ℤ, pos, unsigned_abs, List, [], ◌∷◌, ◌++◌, map, length, if◌then◌else◌, Option, None, Some, unwrap_or, Ok, codes}
 use Rattle.std.specs.List.{list_any}
 use Rattle.serde_json.specs.Data.{Data, Items}
 use Rattle.field_table.specs.declared.field_ref.FieldRef.{FieldRef}
 use Rattle.query_lang.specs.declared.names.Scope.TheVariants.{One}
 use Rattle.query_lang.specs.Expression.{Expression}
 use Rattle.job_values.specs.declared.member.Member.{Member}
-use Rattle.job_values.specs.declared.member.Member.TheVariants.{Version, VxlanPort, Captures, CapturesName, CapturesFile, Vars, VarsName, VarsTake, Filter, Key, Window, Skew, Profile}
+use Rattle.job_values.specs.declared.member.Member.TheVariants.{Version, VxlanPort, Captures, CapturesName, CapturesFile, CapturesOffset, CapturesSkew, Vars, VarsName, VarsTake, Filter, Key, Window, Skew, Profile}
 use Rattle.job_values.specs.declared.fault.JobWhat.TheVariants.{BadName, Twice, Unknown, Field}
 use Rattle.job_values.specs.Said.{Said, ◌>>=◌, or_fault, only_if, within}
-use Rattle.job_values.specs.Values.{number, text, flag, list, object, needed, optional, no_stray, items_length, each}
+use Rattle.job_values.specs.Values.{number, signed_number, text, flag, list, object, needed, optional, no_stray, items_length, each}
 use Rattle.job_values.specs.Fields.{field_of}
 use Rattle.job_values.specs.Parsed.{expression}
-use Rattle.job_table.specs.Limits.{longest}
+use Rattle.job_values.specs.Parsed.{shown}
+use Rattle.job_table.specs.declared.capture_lists.CaptureLists.{CaptureLists}
+use Rattle.job_table.specs.Limits.{longest, newest_version}
 use Rattle.query_tokens.specs.Words.{is_reserved}
 use Rattle.job_table.specs.Words.{is_identifier, is_among, number_of}
 
@@ -47,7 +49,7 @@ short_text at d = text at 0 d >>= λ given. within at 0 0 1024 (length given) gi
 -- ---- the members of the declaration
 
 abbrev pub version : Data → Said ℕ
-version d = needed Version 0 (codes "version") d >>= number Version 0 >>= λ n. within Version 0 1 1 n n
+version d = needed Version 0 (codes "version") d >>= number Version 0 >>= λ n. within Version 0 1 newest_version n n
 
 abbrev pub port_value : Data → Said ℕ
 port_value d = number VxlanPort 0 d >>= λ n. within VxlanPort 0 1 65535 n n
@@ -70,21 +72,67 @@ capture_file i d = do
   name ← within CapturesFile i 1 255 (length name) name
   only_if CapturesFile i BadName (not (has_zero name)) name
 
--- the names and the files
-abbrev pub Captured : Type 0
-Captured = List (List ℕ) × List (List ℕ)
+-- what is added to the times of the capture
+abbrev pub offset_value : ℕ → Data → Said ℤ
+offset_value i d = signed_number CapturesOffset i d >>= λ z. within CapturesOffset i 0 longest (unsigned_abs z) z
+
+abbrev pub capture_offset : ℕ → Data → Said ℤ
+capture_offset i d = optional (pos 0) (offset_value i) (codes "offset") d
+
+-- the skew that the capture has of its own
+abbrev pub skew_value : ℕ → Data → Said (Option ℕ)
+skew_value i d = number CapturesSkew i d >>= λ n. within CapturesSkew i 0 longest n (Some n)
+
+abbrev pub capture_skew : ℕ → Data → Said (Option ℕ)
+capture_skew i d = optional None (skew_value i) (codes "skew") d
+
+-- the members that a capture may have, by the version of the declaration
+abbrev pub capture_members : (version : ℕ) → List (List ℕ)
+capture_members version =
+    if version == 1 then codes "name" ∷ codes "file" ∷ [] else
+    codes "name" ∷ codes "file" ∷ codes "offset" ∷ codes "skew" ∷ []
+
+-- what captures declare, in the order of their numbers
+pub record Captured : Type 0 where
+  pub names : List (List ℕ)
+  pub files : List (List ℕ)
+  pub offsets : List ℤ
+  pub own_skews : List (Option ℕ)
+
+abbrev pub no_captures : Captured
+no_captures = record { names = []; files = []; offsets = []; own_skews = [] }
 
 -- a capture, on top of those before it
-abbrev pub capture : Captured → Data → Said Captured
-capture (names, files) d = do
-  ms ← object Captures (length names) d
-  none ← no_stray Captures (length names) (codes "name" ∷ codes "file" ∷ []) ms
-  name ← capture_name (length names) names d
-  file ← capture_file (length names) d
-  Ok (names ++ name ∷ [], files ++ file ∷ [])
+abbrev pub capture : (version : ℕ) → Captured → Data → Said Captured
+capture version before d = do
+  ms ← object Captures (length before.names) d
+  none ← no_stray Captures (length before.names) (capture_members version) ms
+  name ← capture_name (length before.names) before.names d
+  file ← capture_file (length before.names) d
+  offset ← capture_offset (length before.names) d
+  own_skew ← capture_skew (length before.names) d
+  Ok (record {
+    names = before.names ++ name ∷ [];
+    files = before.files ++ file ∷ [];
+    offsets = before.offsets ++ offset ∷ [];
+    own_skews = before.own_skews ++ own_skew ∷ [];
+  })
 
-abbrev pub captures : Data → Said Captured
-captures d = needed Captures 0 (codes "captures") d >>= listed Captures 0 1 64 >>= each capture ([], [])
+abbrev pub captures : (version : ℕ) → Data → Said Captured
+captures version d = needed Captures 0 (codes "captures") d >>= listed Captures 0 1 64 >>= each (capture version) no_captures
+
+-- what the lists of captures show
+abbrev pub captured_of : CaptureLists → Captured
+captured_of lists = record {
+  names = shown lists.names.items;
+  files = shown lists.files.items;
+  offsets = lists.offsets.items;
+  own_skews = lists.own_skews.items;
+}
+
+-- the skew of each capture: its own, or that of the job
+abbrev pub skews_or : (skew : ℕ) → List (Option ℕ) → List ℕ
+skews_or skew own_skews = map (λ own. unwrap_or own skew) own_skews
 
 -- ---- variables
 

@@ -1,58 +1,94 @@
-//! The rows of captures: a name and a file each.
+//! The rows of captures: a name, a file, an offset and a skew each.
 
-ghost use Rattle.std.specs.Prelude.{◌≡◌, ◌+◌, ◌≤◌, ◌<◌, [], ◌∷◌, length, IfOk, OnOk};
+ghost use Rattle.std.specs.Prelude.{◌≡◌, ◌+◌, ◌≤◌, ◌<◌, [], ◌∷◌, length, All, IfOk, IfSome, OnOk, unsigned_abs};
 ghost use Rattle.std.specs.List.{list_any};
 ghost use Rattle.std.specs.Result.{result_map_both};
-ghost use Rattle.serde_json.specs.View.{view};
+ghost use Rattle.serde_json.specs.View.{view, members_view};
 ghost use Rattle.job_values.specs.Parsed.{shown};
 ghost use Rattle.job_values.specs.Said.{Answers};
-ghost use Rattle.job_table.specs.Table.{capture_name, capture_file, has_zero, capture, captures};
+ghost use Rattle.job_values.specs.Values.{no_stray};
+ghost use Rattle.job_values.specs.declared.member.Member.TheVariants.{Captures};
+ghost use Rattle.job_table.specs.Limits.{longest};
+ghost use Rattle.job_table.specs.Table.{capture_name, capture_file, has_zero, capture_members, capture, captures, captured_of};
 
+use crate::capture_lists::{CaptureLists, OffsetList, OwnSkewList};
+use crate::clock_rows::{capture_offset, capture_skew};
 use crate::rules::{copied, element, in_limits, is_among, is_identifier, listed, put};
 use ds_base::NameList;
 use job_values::{
     JobFault, JobWhat, Member, ReadJobFault, fault_at, needed, no_stray, object, text,
 };
-use serde_json::Value;
+use serde_json::{Map, Value};
 use std::alloc::Global;
 
-/// The names and the files of the captures, in the order of their numbers.
-pub fn captures(alloc: Global, value: &Value) -> Result<(NameList, NameList), ReadJobFault>
-    ensures answer { Answers (λ found. (shown found.0.items, shown found.1.items)) (captures (view value.now)) result }
-    ensures counts { IfOk result (λ found. (1 ≤ length found.0.items) × (length found.0.items ≤ 64)) }
-    ensures files { IfOk result (λ found. length found.1.items ≡ length found.0.items) }
+/// What the captures declare, in the order of their numbers. Which members a capture may have goes by
+/// the version of the declaration.
+pub fn captures(alloc: Global, value: &Value, version: u32) -> Result<CaptureLists, ReadJobFault>
+    ensures answer { Answers captured_of (captures version (view value.now)) result }
+    ensures counts { IfOk result (λ found. (1 ≤ length found.names.items) × (length found.names.items ≤ 64)) }
+    ensures files { IfOk result (λ found. length found.files.items ≡ length found.names.items) }
+    ensures offsets { IfOk result (λ found. length found.offsets.items ≡ length found.names.items) }
+    ensures offset_limits { IfOk result (λ found. All (λ offset. unsigned_abs offset ≤ longest) found.offsets.items) }
+    ensures own_skews { IfOk result (λ found. length found.own_skews.items ≡ length found.names.items) }
+    ensures skew_limits { IfOk result (λ found. All (λ own. IfSome own (λ skew. skew ≤ longest)) found.own_skews.items) }
 {
     let found = needed(value, "captures", Member::Captures, 0)?;
     let list = listed(found, 1, 64, Member::Captures, 0)?;
-    let mut names = NameList::new(alloc);
-    let mut files = NameList::new(alloc);
+    let mut lists = CaptureLists {
+        names: NameList::new(alloc),
+        files: NameList::new(alloc),
+        offsets: OffsetList::new(alloc),
+        own_skews: OwnSkewList::new(alloc),
+    };
     for i in 0..list.len() {
-        capture(alloc, element(list, i), &mut names, &mut files)?;
+        capture(alloc, element(list, i), version, &mut lists)?;
     }
-    Ok((names, files))
+    Ok(lists)
 }
 
-// Puts the next capture at the end of the names and the files.
+// Puts the next capture at the end of the lists.
 fn capture(
     alloc: Global,
     value: &Value,
-    names: &mut NameList,
-    files: &mut NameList,
+    version: u32,
+    lists: &mut CaptureLists,
 ) -> Result<(), ReadJobFault>
-    requires { length names.old.items < 64 }
-    ensures answer { Answers (λ _. (shown names.new.items, shown files.new.items))
-        (capture (shown names.old.items, shown files.old.items) (view value.now)) result }
-    ensures names { OnOk result (length names.new.items ≡ length names.old.items + 1) }
-    ensures files { OnOk result (length files.new.items ≡ length files.old.items + 1) }
+    requires { length lists.old.names.items < 64 }
+    ensures answer { Answers (λ _. captured_of lists.new) (capture version (captured_of lists.old) (view value.now)) result }
+    ensures names { OnOk result (length lists.new.names.items ≡ length lists.old.names.items + 1) }
+    ensures files { OnOk result (length lists.new.files.items ≡ length lists.old.files.items + 1) }
+    ensures offsets { OnOk result (length lists.new.offsets.items ≡ length lists.old.offsets.items + 1) }
+    ensures offset_limits { OnOk result (All (λ offset. unsigned_abs offset ≤ longest) lists.old.offsets.items
+        → All (λ offset. unsigned_abs offset ≤ longest) lists.new.offsets.items) }
+    ensures own_skews { OnOk result (length lists.new.own_skews.items ≡ length lists.old.own_skews.items + 1) }
+    ensures skew_limits { OnOk result (All (λ own. IfSome own (λ skew. skew ≤ longest)) lists.old.own_skews.items
+        → All (λ own. IfSome own (λ skew. skew ≤ longest)) lists.new.own_skews.items) }
 {
-    let index = names.len() as u32;
+    let index = lists.names.len() as u32;
     let members = object(value, Member::Captures, index)?;
-    no_stray(members, &["name", "file"], Member::Captures, index)?;
-    let name = copied(alloc, capture_name(value, names, index)?)?;
+    no_stray_member(members, version, index)?;
+    let name = copied(alloc, capture_name(value, &lists.names, index)?)?;
     let file = copied(alloc, capture_file(value, index)?)?;
-    put(names, name)?;
-    put(files, file)?;
+    let offset = capture_offset(value, index)?;
+    let own_skew = capture_skew(value, index)?;
+    put(&mut lists.names, name)?;
+    put(&mut lists.files, file)?;
+    put(&mut lists.offsets, offset)?;
+    put(&mut lists.own_skews, own_skew)?;
     Ok(())
+}
+
+// Refuses a member that a capture does not have in this version.
+fn no_stray_member(members: &Map<String, Value>, version: u32, index: u32) -> Result<(), JobFault>
+    ensures { result ≡ no_stray Captures index (capture_members version) (members_view members.now.entries) }
+{
+    match version {
+        1 => no_stray(members, &["name", "file"], Member::Captures, index),
+        _ => {
+            let known = ["name", "file", "offset", "skew"];
+            no_stray(members, &known, Member::Captures, index)
+        }
+    }
 }
 
 // The name of a capture, which is none of those before it.

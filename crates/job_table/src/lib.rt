@@ -4,12 +4,14 @@
 #![tactic(auto)]
 
 // What rows are made of, and what they give.
+mod capture_lists;
 mod kinds;
 mod rules;
 mod takes;
 
 // The rows, in the order of the table.
 mod capture_rows;
+mod clock_rows;
 mod filters;
 mod numbers;
 mod scalars;
@@ -20,7 +22,9 @@ mod patterns;
 mod queries;
 mod rewrites;
 
+pub use capture_lists::{CaptureLists, OffsetList, OwnSkewList, SkewList};
 pub use capture_rows::captures;
+pub use clock_rows::skews;
 pub use filters::filter;
 pub use kinds::Query;
 pub use numbers::key;

@@ -2,7 +2,7 @@
 
 ghost use Rattle.std.specs.Prelude.{◌≡◌, ◌≤◌, ◌<◌, ◌^◌, IfOk};
 ghost use Rattle.serde_json.specs.View.{view};
-ghost use Rattle.job_table.specs.Limits.{longest};
+ghost use Rattle.job_table.specs.Limits.{longest, newest_version};
 ghost use Rattle.job_table.specs.Table.{version, port_value, vxlan_port, window, skew, profile};
 
 use crate::rules::in_limits;
@@ -10,13 +10,18 @@ use ds_base::HOUR;
 use job_values::{JobFault, Member, flag, needed, number};
 use serde_json::Value;
 
-/// The version of the declaration, which is 1.
-pub fn version(value: &Value) -> Result<u64, JobFault>
-    ensures { result ≡ version (view value.now) }
+/// The newest version of a declaration; the oldest is 1.
+const NEWEST_VERSION: u64 = 2;
+
+/// The version of the declaration.
+pub fn version(value: &Value) -> Result<u32, JobFault>
+    ensures answer { result ≡ version (view value.now) }
+    ensures limits { IfOk result (λ n. (1 ≤ n) × (n ≤ newest_version)) }
 {
     let found = needed(value, "version", Member::Version, 0)?;
     let n = number(found, Member::Version, 0)?;
-    in_limits(n, 1, 1, Member::Version, 0)
+    let version = in_limits(n, 1, NEWEST_VERSION, Member::Version, 0)?;
+    Ok(version as u32)
 }
 
 /// The UDP port of VXLAN, 4789 where none is given.

@@ -1,16 +1,20 @@
 -- Captures, as they are printed, are read as the same.
-use Rattle.std.proofs.Common.{◌≡◌, ℕ, Bool, true, false, not, List, [], ◌∷◌, ◌++◌, length, refl, ◌∙◌, subst, arith, append_assoc, append-nil}
-use Rattle.std.specs.Prelude.{◌&&◌, nat_le, Ok, codes}
+use Rattle.std.proofs.Common.{◌≡◌, ℕ, ◌≤◌, Bool, true, false, not, List, [], ◌∷◌, ◌++◌, map, length, refl, ◌∙◌, subst, arith, append_assoc, append-nil, All}
+use Rattle.std.specs.Prelude.{◌&&◌, ◌==◌, nat_le, ℤ, pos, unsigned_abs, Option, None, Ok, codes}
+use Rattle.std.proofs.lemmas.List.Elements.{All-nil, All-head, All-tail}
 use Rattle.serde_json.specs.Data.{Data}
 use Rattle.serde_json.specs.View.{items_of}
 use Rattle.job_values.specs.declared.member.Member.{Member}
 use Rattle.job_values.specs.declared.member.Member.TheVariants.{Captures, CapturesName, CapturesFile}
 use Rattle.job_values.specs.declared.fault.JobWhat.TheVariants.{BadName, Twice, Limit}
 use Rattle.job_values.specs.Said.{◌>>=◌}
-use Rattle.job_values.specs.Values.{text, needed, no_stray, object, each}
-use Rattle.job_text.specs.Parts.{both_of, capture_value}
-use Rattle.job_table.specs.Table.{Captured, capture, captures, capture_name, capture_file, new_name, has_zero, listed}
+use Rattle.job_values.specs.Values.{text, needed, no_stray, object, items_length, each}
+use Rattle.job_text.specs.Parts.{capture_value, capture_values}
+use Rattle.job_table.proofs.Elements.{all_more}
+use Rattle.job_table.specs.Limits.{longest}
+use Rattle.job_table.specs.Table.{Captured, no_captures, capture, captures, capture_members, capture_name, capture_file, capture_offset, capture_skew, new_name, has_zero, listed}
 use Rattle.job_table.specs.Words.{is_identifier, is_among}
+use Rattle.job_text.proofs.ClocksAgain.{offset_first, skew_first, offset_again, skew_again, offset_read, skew_read}
 use Rattle.job_text.proofs.NewNames.{AllNew, all_new_more}
 use Rattle.job_text.proofs.Said.{bound, tested, ok_same, kept}
 
@@ -50,38 +54,95 @@ filed i d file e =
     let good = tested CapturesFile i BadName (not (has_zero three.0)) three.0 file three.2 in
     (subst (λ f. fits f ≡ true) (fit.1 ∙ good.1) fit.0, subst (λ f. has_zero f ≡ false) good.1 (no _ good.0))
 
-abbrev pub AreCaptures : Captured → Type 0
-AreCaptures c = AllNew is_identifier [] c.0 × AllFiles c.1
+-- in version 1 no capture has an offset or a skew of its own
+abbrev pub AreUnclocked : List ℤ → List (Option ℕ) → Type 0
+AreUnclocked offsets own_skews = All (λ offset. offset ≡ pos 0) offsets × All (λ own. own ≡ None) own_skews
 
-one_more : (s : Captured) (d : Data) (t : Captured) → AreCaptures s → capture s d ≡ Ok t → AreCaptures t
-one_more (names, files) d t all e =
-    let one = bound (object Captures (length names) d) _ t e in
-    let two = bound (no_stray Captures (length names) (codes "name" ∷ codes "file" ∷ []) one.0) _ t one.2 in
-    let three = bound (capture_name (length names) names d) _ t two.2 in
-    let four = bound (capture_file (length names) d) _ t three.2 in
-    let five = bound (needed CapturesName (length names) (codes "name") d) _ three.0 three.1 in
-    let good = new_named CapturesName (length names) is_identifier names five.0 three.0 five.2 in
-    let file = filed (length names) d four.0 four.1 in
-    subst AreCaptures (ok_same four.2)
-    (all_new_more is_identifier [] names three.0 all.0 good.0 good.1, all_files_more files four.0 all.1 file.0 file.1)
+abbrev pub AreCaptures : (version : ℕ) → Captured → Type 0
+AreCaptures version c = AllNew is_identifier [] c.names × AllFiles c.files × (version ≡ 1 → AreUnclocked c.offsets c.own_skews)
 
-pub captures_kept : (d : Data) (c : Captured) → captures d ≡ Ok c → AreCaptures c
-captures_kept d c e =
-    let one = bound (needed Captures 0 (codes "captures") d >>= listed Captures 0 1 64) (each capture ([], [])) c e in
-    kept AreCaptures capture one_more ([], []) one.0 c (tt, tt) one.2
+one_more : (version : ℕ) (before : Captured) (d : Data) (t : Captured) → AreCaptures version before → capture version before d ≡ Ok t → AreCaptures version t
+one_more version before d t all e =
+    let i = length before.names in
+    let one = bound (object Captures i d) _ t e in
+    let two = bound (no_stray Captures i (capture_members version) one.0) _ t one.2 in
+    let three = bound (capture_name i before.names d) _ t two.2 in
+    let four = bound (capture_file i d) _ t three.2 in
+    let offset = bound (capture_offset i d) _ t four.2 in
+    let own = bound (capture_skew i d) _ t offset.2 in
+    let five = bound (needed CapturesName i (codes "name") d) _ three.0 three.1 in
+    let good = new_named CapturesName i is_identifier before.names five.0 three.0 five.2 in
+    let file = filed i d four.0 four.1 in
+    subst (AreCaptures version) (ok_same own.2) (
+      all_new_more is_identifier [] before.names three.0 all.0 good.0 good.1,
+      all_files_more before.files four.0 all.1 file.0 file.1,
+      λ first. (
+        all_more (λ offset. offset ≡ pos 0) before.offsets offset.0 (all.2 first).0 (offset_first version first i d one.0 two.0 one.1 two.1 offset.0 offset.1),
+        all_more (λ own. own ≡ None) before.own_skews own.0 (all.2 first).1 (skew_first version first i d one.0 two.0 one.1 two.1 own.0 own.1),
+      ),
+    )
+
+pub captures_kept : (version : ℕ) (d : Data) (c : Captured) → captures version d ≡ Ok c → AreCaptures version c
+captures_kept version d c e =
+    let one = bound (needed Captures 0 (codes "captures") d >>= listed Captures 0 1 64) (each (capture version) no_captures) c e in
+    kept (AreCaptures version) (capture version) (one_more version) no_captures one.0 c
+    (tt, tt, λ first. (All-nil (λ offset. offset ≡ pos 0), All-nil (λ own. own ≡ None))) one.2
 
 -- ---- what is printed
 
-one_again : (names files : List (List ℕ)) (name file : List ℕ) → is_identifier name ≡ true → is_among names name ≡ false → fits file ≡ true → has_zero file ≡ false
-    → capture (names, files) (capture_value name file) ≡ Ok (names ++ name ∷ [], files ++ file ∷ [])
-one_again names files name file good new fit zero = rw (good, new, fit, zero) refl
+-- these captures, and behind them one more
+abbrev with_one : Captured → (name file : List ℕ) → ℤ → Option ℕ → Captured
+with_one before name file offset own = record {
+  names = before.names ++ name ∷ [];
+  files = before.files ++ file ∷ [];
+  offsets = before.offsets ++ offset ∷ [];
+  own_skews = before.own_skews ++ own ∷ [];
+}
 
-pub captures_again : (names files more others : List (List ℕ)) → AllNew is_identifier names more → AllFiles others → length others ≡ length more
-    → each capture (names, files) (items_of (both_of capture_value more others)) ≡ Ok (names ++ more, files ++ others)
-captures_again names files [] [] all fs e = rw (append-nil names, append-nil files) refl
-captures_again names files [] (o ∷ others) all fs e = absurd (omega (arith, e))
-captures_again names files (m ∷ more) [] all fs e = absurd (omega (arith, e))
-captures_again names files (m ∷ more) (o ∷ others) all fs e =
-    rw (one_again names files m o all.0 all.1 fs.0 fs.1)
-    (captures_again (names ++ m ∷ []) (files ++ o ∷ []) more others all.2 fs.2 (omega (arith, e))
-    ∙ rw (append_assoc names (m ∷ []) more, append_assoc files (o ∷ []) others) refl)
+one_again : (version : ℕ) (before : Captured) (name file : List ℕ) (offset : ℤ) (skew : ℕ) → is_identifier name ≡ true → is_among before.names name ≡ false
+    → fits file ≡ true → has_zero file ≡ false → unsigned_abs offset ≤ longest → skew ≤ longest → (first : Bool) → (version == 1) ≡ first
+    → capture version before (capture_value version name file offset skew) ≡ Ok (with_one before name file (offset_read first offset) (skew_read first skew))
+one_again version before name file offset skew good new fit zero moved late true e = rw (e, good, new, fit, zero) refl
+one_again version before name file offset skew good new fit zero moved late false e =
+    rw (e, good, new, fit, zero, offset_again (length before.names) offset moved, skew_again (length before.names) skew late) refl
+
+pub captures_again : (version : ℕ) (before : Captured) (names files : List (List ℕ)) (offsets : List ℤ) (skews : List ℕ)
+    → AllNew is_identifier before.names names → AllFiles files → All (λ offset. unsigned_abs offset ≤ longest) offsets → All (λ skew. skew ≤ longest) skews
+    → length files ≡ length names → length offsets ≡ length names → length skews ≡ length names
+    → each (capture version) before (items_of (capture_values version names files offsets skews)) ≡ Ok (record {
+      names = before.names ++ names;
+      files = before.files ++ files;
+      offsets = before.offsets ++ map (offset_read (version == 1)) offsets;
+      own_skews = before.own_skews ++ map (skew_read (version == 1)) skews;
+    })
+captures_again version before [] [] [] [] all fs moved late e f g =
+    rw (append-nil before.names, append-nil before.files, append-nil before.offsets, append-nil before.own_skews) refl
+captures_again version before [] [] [] (s ∷ skews) all fs moved late e f g = absurd (omega (arith, g))
+captures_again version before [] [] (o ∷ offsets) skews all fs moved late e f g = absurd (omega (arith, f))
+captures_again version before [] (file ∷ files) offsets skews all fs moved late e f g = absurd (omega (arith, e))
+captures_again version before (n ∷ names) [] offsets skews all fs moved late e f g = absurd (omega (arith, e))
+captures_again version before (n ∷ names) (file ∷ files) [] skews all fs moved late e f g = absurd (omega (arith, f))
+captures_again version before (n ∷ names) (file ∷ files) (o ∷ offsets) [] all fs moved late e f g = absurd (omega (arith, g))
+captures_again version before (n ∷ names) (file ∷ files) (o ∷ offsets) (s ∷ skews) all fs moved late e f g =
+    let first = version == 1 in
+    rw (one_again version before n file o s all.0 all.1 fs.0 fs.1 (All-head (λ offset. unsigned_abs offset ≤ longest) o offsets moved) (All-head (λ skew. skew ≤ longest) s skews late) first refl)
+    (captures_again version (with_one before n file (offset_read first o) (skew_read first s)) names files offsets skews all.2 fs.2
+    (All-tail (λ offset. unsigned_abs offset ≤ longest) o offsets moved) (All-tail (λ skew. skew ≤ longest) s skews late)
+    (omega (arith, e)) (omega (arith, f)) (omega (arith, g))
+    ∙ rw (
+      append_assoc before.names (n ∷ []) names,
+      append_assoc before.files (file ∷ []) files,
+      append_assoc before.offsets (offset_read first o ∷ []) (map (offset_read first) offsets),
+      append_assoc before.own_skews (skew_read first s ∷ []) (map (skew_read first) skews),
+    ) refl)
+
+-- so many of these
+pub captures_many : (version : ℕ) (names files : List (List ℕ)) (offsets : List ℤ) (skews : List ℕ)
+    → length files ≡ length names → length offsets ≡ length names → length skews ≡ length names
+    → items_length (items_of (capture_values version names files offsets skews)) ≡ length names
+captures_many version [] files offsets skews e f g = refl
+captures_many version (n ∷ names) [] offsets skews e f g = absurd (omega (arith, e))
+captures_many version (n ∷ names) (file ∷ files) [] skews e f g = absurd (omega (arith, f))
+captures_many version (n ∷ names) (file ∷ files) (o ∷ offsets) [] e f g = absurd (omega (arith, g))
+captures_many version (n ∷ names) (file ∷ files) (o ∷ offsets) (s ∷ skews) e f g =
+    omega (arith, captures_many version names files offsets skews (omega (arith, e)) (omega (arith, f)) (omega (arith, g)))

@@ -1,14 +1,13 @@
 -- The values of a job's parts are a few levels deep.
-use Rattle.std.proofs.Common.{◌≡◌, ℕ, suc, ◌^◌, ◌≤◌, Bool, true, false, cond, List, [], ◌∷◌, map, sym, subst, ap, ◌∙◌, arith}
-use Rattle.std.specs.Prelude.{nat_lt, Some, IsUtf8}
+use Rattle.std.proofs.Common.{ℕ, suc, ◌^◌, ◌≤◌, Bool, true, false, cond, List, [], ◌∷◌, map, arith}
+use Rattle.std.specs.Prelude.{nat_lt, ◌==◌, ℤ, pos, negsuc}
 use Rattle.std.specs.Fmt.{decimal}
-use Rattle.std.proofs.lemmas.Str.{is_utf8-from_IsUtf8}
 use Rattle.std.proofs.Math.Nat.{max-le}
 use Rattle.field_table.specs.declared.field_ref.FieldRef.{FieldRef}
 use Rattle.serde_json.specs.Data.{Data, unsigned, number, string, depth, items_depth}
-use Rattle.serde_json.specs.Read.{read, max_depth}
+use Rattle.serde_json.specs.Find.{of_integer}
 use Rattle.serde_json.specs.View.{items_of}
-use Rattle.job_text.specs.Parts.{both_of, named, wide_value, capture_value, field_value, var_value, set_names, pattern_value, row_value, rule_value, ruling_value, question_value}
+use Rattle.job_text.specs.Parts.{both_of, wide_value, plain_capture, clocked_capture, capture_values, field_value, var_value, set_names, pattern_value, row_value, rule_value, ruling_value, question_value}
 use Rattle.job_table.specs.Question.{Question, Everything, Loops, Drops, Paths, Rewrites, Tests, Manner, Same, Less, Table}
 
 pub listed : {A : Type 0} (k : ℕ) (value : A → Data) → ((x : A) → depth (value x) ≤ k) → (xs : List A) → items_depth (items_of (map value xs)) ≤ k
@@ -51,8 +50,26 @@ question vars captures (Rewrites from to rules) =
     up _ 4 (max-le (none 4) (max-le (none 4) (max-le (up _ 3 (listed 3 (ruling_value vars) (λ r. rule r.how _) rules)) (max-le (none 4) (none 4)))))
 question vars captures (Tests text e) = omega arith
 
-pub capture : (name file : List ℕ) → depth (capture_value name file) ≤ 2
-capture name file = omega arith
+signed : (z : ℤ) (k : ℕ) → depth (number (of_integer z)) ≤ k
+signed (pos n) k = none k
+signed (negsuc n) k = none k
+
+clocked : (name file : List ℕ) (offset : ℤ) (skew : ℕ) → depth (clocked_capture name file offset skew) ≤ 2
+clocked name file offset skew = up _ 1 (max-le (none 1) (max-le (none 1) (max-le (signed offset 1) (max-le (none 1) (none 1)))))
+
+by_version : (first : Bool) (name file : List ℕ) (offset : ℤ) (skew : ℕ)
+    → depth (cond first (plain_capture name file) (clocked_capture name file offset skew)) ≤ 2
+by_version true name file offset skew = omega arith
+by_version false name file offset skew = clocked name file offset skew
+
+pub captures : (version : ℕ) (names files : List (List ℕ)) (offsets : List ℤ) (skews : List ℕ)
+    → items_depth (items_of (capture_values version names files offsets skews)) ≤ 2
+captures version [] files offsets skews = omega arith
+captures version (name ∷ names) [] offsets skews = omega arith
+captures version (name ∷ names) (file ∷ files) [] skews = omega arith
+captures version (name ∷ names) (file ∷ files) (offset ∷ offsets) [] = omega arith
+captures version (name ∷ names) (file ∷ files) (offset ∷ offsets) (skew ∷ skews) =
+    max-le (by_version (version == 1) name file offset skew) (captures version names files offsets skews)
 
 pub var : (name : List ℕ) (take : List FieldRef) → depth (var_value name take) ≤ 2
 var name take = up _ 1 (max-le (none 1) (max-le (up _ 0 (listed 0 field_value (λ _. none 0) take)) (none 1)))

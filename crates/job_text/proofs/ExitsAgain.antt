@@ -14,7 +14,8 @@ use Rattle.job_table.specs.QueryTable.{exits}
 use Rattle.job_table.specs.Words.{is_identifier}
 use Rattle.job_text.proofs.KeyAgain.{AllOther, numbers_again}
 use Rattle.job_text.proofs.NewNames.{AllNew}
-use Rattle.job_text.proofs.VarsAgain.{items_many, counted}
+use Rattle.job_text.proofs.Said.{counted}
+use Rattle.job_text.proofs.VarsAgain.{items_many}
 
 -- the numbers whose bit is set, of those from n on
 abbrev pub set_bits : ℕ → ℕ → List (List ℕ) → List ℕ

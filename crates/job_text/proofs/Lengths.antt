@@ -1,6 +1,6 @@
 -- How long the texts of a job's parts are at most.
 use Rattle.std.proofs.Common.{◌≡◌, ℕ, zero, suc, ◌+◌, ◌*◌, ◌/◌, ◌%◌, ◌^◌, ◌<◌, ◌≤◌, Bool, true, false, cond, List, [], ◌∷◌, ◌++◌, length, map, refl, ap, arith, All}
-use Rattle.std.specs.Prelude.{◌&&◌, ◌||◌, ◌==◌, nat_lt, nat_le, flat_map, slice_get, slice_index, not, unwrap_or, codes}
+use Rattle.std.specs.Prelude.{◌&&◌, ◌||◌, ◌==◌, ℤ, pos, negsuc, unsigned_abs, nat_lt, nat_le, flat_map, slice_get, slice_index, not, unwrap_or, codes}
 use Rattle.std.specs.Char.{digit_char}
 use Rattle.std.specs.Fmt.{decimal}
 use Rattle.std.specs.Int.{bit_at}
@@ -18,12 +18,13 @@ use Rattle.field_table.specs.declared.kind.Kind.TheVariants.{Eth, Tag, Ipv4, Ipv
 use Rattle.path_judges.specs.declared.pattern.Step.{Step}
 use Rattle.path_judges.specs.declared.pattern.Step.TheVariants.{Point, One, Many}
 use Rattle.serde_json.proofs.OnLiterals.{serde_json_on_literals}
-use Rattle.serde_json.specs.Data.{Data, unsigned, boolean, number, string, array, object, Members, no_members, member}
+use Rattle.serde_json.specs.Data.{Data, unsigned, number, string, array, object, Members, no_members, member}
+use Rattle.serde_json.specs.Find.{of_integer}
 use Rattle.serde_json.specs.View.{items_of}
 use Rattle.serde_json.specs.Written.{compact_text, items_text, members_text, comma_if}
-use Rattle.job_text.specs.Parts.{both_of, named, name_at, wide_value, capture_value, field_value, var_value, set_names, step_word, pattern_text, pattern_value, row_value, rule_value, ruling_value, question_value}
+use Rattle.job_text.specs.Parts.{both_of, named, name_at, wide_value, plain_capture, clocked_capture, capture_value, capture_values, field_value, var_value, set_names, step_word, pattern_text, pattern_value, row_value, rule_value, ruling_value, question_value}
 use Rattle.job_table.specs.Question.{Question, Everything, Loops, Drops, Paths, Rewrites, Tests, Manner, Same, Less, Table}
-use Rattle.job_table.specs.Limits.{Counts, IsPattern, IsRow, IsManner, IsRuling, IsQuestion}
+use Rattle.job_table.specs.Limits.{longest, Counts, IsPattern, IsRow, IsManner, IsRuling, IsQuestion}
 use Rattle.job_table.specs.Table.{is_free}
 use Rattle.job_table.specs.Words.{is_identifier}
 use Rattle.job_text.proofs.CapturedAgain.{AllFiles}
@@ -150,24 +151,55 @@ named_short names n all = string_short (name_at names n) 32 (short_at 32 names n
 
 -- ---- captures and variables
 
-capture_short : (name file : List ℕ) → length name ≤ 32 → length file ≤ 255 → length (compact_text (capture_value name file)) ≤ 1784
-capture_short name file one two =
-    object_short 1783 (one_more (codes "file") (string file) 4 1532 223 (omega arith) (string_short file 255 two)
-    (one_more (codes "name") (string name) 4 194 1 (omega arith) (string_short name 32 one) ended))
+pub decimal_short : (k n : ℕ) → 0 < k → n < 10 ^ k → n < 10 ^ 64 → length (decimal n) ≤ k
+decimal_short k n some less most = length-decimal-le_wide k n some less most
 
-pub captures_short : (later : Bool) (earlier names files : List (List ℕ)) → AllNew is_identifier earlier names → AllFiles files
-    → length (items_text later (items_of (both_of capture_value names files))) ≤ 1785 * length names + 1
-captures_short later earlier [] files new all = omega arith
-captures_short later earlier (name ∷ names) [] new all = omega arith
-captures_short later earlier (name ∷ names) (file ∷ files) new all =
+plain_short : (name file : List ℕ) → length name ≤ 32 → length file ≤ 255 → length (compact_text (plain_capture name file)) ≤ 1886
+plain_short name file one two =
+    more (object_short 1783 (one_more (codes "file") (string file) 4 1532 223 (omega arith) (string_short file 255 two)
+    (one_more (codes "name") (string name) 4 194 1 (omega arith) (string_short name 32 one) ended)))
+  where
+    more : {n : ℕ} → n ≤ 1784 → n ≤ 1886
+    more h = omega (arith, h)
+
+signed_short : (z : ℤ) → unsigned_abs z ≤ longest → length (compact_text (number (of_integer z))) ≤ 14
+signed_short (pos n) most = omega (arith, decimal_short 13 n (omega arith) (omega (arith, most)) (omega (arith, most)))
+signed_short (negsuc n) most = omega (arith, decimal_short 13 (suc n) (omega arith) (omega (arith, most)) (omega (arith, most)))
+
+unsigned_short : (n : ℕ) → n ≤ longest → length (compact_text (number (unsigned n))) ≤ 20
+unsigned_short n most = omega (arith, decimal_short 13 n (omega arith) (omega (arith, most)) (omega (arith, most)))
+
+clocked_short : (name file : List ℕ) (offset : ℤ) (skew : ℕ) → length name ≤ 32 → length file ≤ 255 → unsigned_abs offset ≤ longest → skew ≤ longest
+    → length (compact_text (clocked_capture name file offset skew)) ≤ 1886
+clocked_short name file offset skew one two moved late =
+    object_short 1885 (one_more (codes "file") (string file) 4 1532 325 (omega arith) (string_short file 255 two)
+    (one_more (codes "name") (string name) 4 194 103 (omega arith) (string_short name 32 one)
+    (one_more (codes "offset") (number (of_integer offset)) 6 14 49 (omega arith) (signed_short offset moved)
+    (one_more (codes "skew") (number (unsigned skew)) 4 20 1 (omega arith) (unsigned_short skew late) ended))))
+
+by_version : (first : Bool) (name file : List ℕ) (offset : ℤ) (skew : ℕ) → length name ≤ 32 → length file ≤ 255 → unsigned_abs offset ≤ longest → skew ≤ longest
+    → length (compact_text (cond first (plain_capture name file) (clocked_capture name file offset skew))) ≤ 1886
+by_version true name file offset skew one two moved late = plain_short name file one two
+by_version false name file offset skew one two moved late = clocked_short name file offset skew one two moved late
+
+pub captures_short : (later : Bool) (version : ℕ) (earlier names files : List (List ℕ)) (offsets : List ℤ) (skews : List ℕ)
+    → AllNew is_identifier earlier names → AllFiles files → All (λ offset. unsigned_abs offset ≤ longest) offsets → All (λ skew. skew ≤ longest) skews
+    → length (items_text later (items_of (capture_values version names files offsets skews))) ≤ 1887 * length names + 1
+captures_short later version earlier [] files offsets skews new all moved late = omega arith
+captures_short later version earlier (name ∷ names) [] offsets skews new all moved late = omega arith
+captures_short later version earlier (name ∷ names) (file ∷ files) [] skews new all moved late = omega arith
+captures_short later version earlier (name ∷ names) (file ∷ files) (offset ∷ offsets) [] new all moved late = omega arith
+captures_short later version earlier (name ∷ names) (file ∷ files) (offset ∷ offsets) (skew ∷ skews) new all moved late =
     let few = leb-true (length file) 255 (and_parts (nat_le 1 (length file)) (nat_le (length file) 255) all.0).1 in
+    let value : Data = capture_value version name file offset skew in
+    let rest : List Data = capture_values version names files offsets skews in
     omega (
       arith,
-      length-append (comma_if later) (compact_text (capture_value name file) ++ items_text true (items_of (both_of capture_value names files))),
+      length-append (comma_if later) (compact_text value ++ items_text true (items_of rest)),
       comma_short later,
-      length-append (compact_text (capture_value name file)) (items_text true (items_of (both_of capture_value names files))),
-      capture_short name file (identifier_short name new.0) few,
-      captures_short true (earlier ++ name ∷ []) names files new.2 all.2,
+      length-append (compact_text value) (items_text true (items_of rest)),
+      by_version (version == 1) name file offset skew (identifier_short name new.0) few (All-head (λ offset. unsigned_abs offset ≤ longest) offset offsets moved) (All-head (λ skew. skew ≤ longest) skew skews late),
+      captures_short true version (earlier ++ name ∷ []) names files offsets skews new.2 all.2 (All-tail (λ offset. unsigned_abs offset ≤ longest) offset offsets moved) (All-tail (λ skew. skew ≤ longest) skew skews late),
     )
 
 kind_short : (k : Kind) → length (kind_text k) ≤ 5
@@ -197,9 +229,6 @@ fields_short Icmp = refl
 fields_short Icmp6 = refl
 fields_short Gre = refl
 fields_short Vxlan = refl
-
-pub decimal_short : (k n : ℕ) → 0 < k → n < 10 ^ k → n < 10 ^ 64 → length (decimal n) ≤ k
-decimal_short k n some less most = length-decimal-le_wide k n some less most
 
 index_short : (inside : Bool) (steps : ℕ) → steps ≤ 15 → length (index_text inside steps) ≤ 3
 index_short false steps near = omega (arith, decimal_short 2 steps (omega arith) (omega (arith, near)) (omega (arith, near)))

@@ -3,6 +3,7 @@ pub mod Floats
 pub mod Depths
 pub mod Said
 pub mod NewNames
+pub mod ClocksAgain
 pub mod CapturedAgain
 pub mod VarsAgain
 pub mod KeyAgain

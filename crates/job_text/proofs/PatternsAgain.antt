@@ -16,7 +16,7 @@ use Rattle.job_table.specs.Limits.{StepBelow, IsPattern}
 use Rattle.job_table.specs.QueryTable.{steps, pattern}
 use Rattle.job_table.specs.Words.{is_identifier, is_blank, unless_empty, words_behind, words, step_of}
 use Rattle.job_text.proofs.NewNames.{AllNew, test_at, number_again}
-use Rattle.job_text.proofs.VarsAgain.{counted}
+use Rattle.job_text.proofs.Said.{counted}
 
 -- ---- words
 

@@ -1,27 +1,24 @@
 -- A query, as it is printed, is read as the same.
-use Rattle.std.proofs.Common.{◌≡◌, ℕ, ◌<◌, ◌≤◌, List, [], ◌∷◌, ◌++◌, length, map, refl, ◌∙◌, subst, arith, append_assoc, append-nil, All}
-use Rattle.std.specs.Prelude.{Ok, codes}
+use Rattle.std.proofs.Common.{◌≡◌, ℕ, ◌<◌, ◌≤◌, List, [], ◌∷◌, ◌++◌, length, map, refl, ◌∙◌, arith, append_assoc, append-nil, All}
+use Rattle.std.specs.Prelude.{Ok}
 use Rattle.std.proofs.lemmas.List.Elements.{All-head, All-tail}
 use Rattle.path_judges.specs.declared.pattern.Step.{Step}
-use Rattle.query_lang.specs.declared.names.Scope.TheVariants.{Group}
 use Rattle.serde_json.specs.Data.{Data}
 use Rattle.serde_json.specs.View.{items_of}
-use Rattle.job_values.specs.declared.member.Member.TheVariants.{Query, QueryExpr}
+use Rattle.job_values.specs.declared.member.Member.TheVariants.{Query}
 use Rattle.job_values.specs.Said.{Said, ◌>>=◌}
-use Rattle.job_values.specs.Parsed.{expression}
-use Rattle.job_values.specs.Values.{needed, object, no_stray, each}
+use Rattle.job_values.specs.Values.{object, no_stray, each}
 use Rattle.job_text.specs.Parts.{name_at, pattern_value, path_value, row_value, rule_value, ruling_value, rewrite_value, question_value}
 use Rattle.job_table.specs.Question.{Question, Everything, Loops, Drops, Paths, Rewrites, Tests, Manner, Same, Less, Table, Ruling}
 use Rattle.job_table.specs.Limits.{Counts, IsPattern, IsRow, IsManner, IsRuling, IsQuestion}
-use Rattle.job_table.specs.QueryTable.{kind, members_of, question, query, allow, rule, rules, hop, exits, from, to}
-use Rattle.job_table.specs.Table.{short_text}
+use Rattle.job_table.specs.QueryTable.{kind, members_of, question, allow, rule, rules, hop, from, to}
 use Rattle.job_table.specs.Words.{is_identifier}
 use Rattle.job_table.specs.Table.{is_free}
 use Rattle.job_text.proofs.ExitsAgain.{exits_again}
 use Rattle.job_text.proofs.NewNames.{AllNew, number_again}
 use Rattle.job_text.proofs.PatternsAgain.{AllPatterns, paths_again}
-use Rattle.job_text.proofs.Said.{bound, ok_same}
-use Rattle.job_text.proofs.VarsAgain.{items_many, counted}
+use Rattle.job_text.proofs.Said.{counted}
+use Rattle.job_text.proofs.VarsAgain.{items_many}
 use Rattle.job_text.proofs.WidesAgain.{wide_again, AllRows, rows_again}
 
 -- ---- paths

@@ -1,6 +1,7 @@
 -- What is known where something was said without a fault.
-use Rattle.std.proofs.Common.{◌≡◌, ℕ, Bool, true, false, refl, ap, subst}
-use Rattle.std.specs.Prelude.{Option, Some, None, Ok, Err}
+use Rattle.std.proofs.Common.{◌≡◌, ℕ, ◌≤◌, Bool, true, false, refl, ap, subst}
+use Rattle.std.specs.Prelude.{◌&&◌, nat_le, Option, Some, None, Ok, Err}
+use Rattle.std.proofs.lemmas.Bool.{le-leb}
 use Rattle.serde_json.specs.Data.{Data, Items, no_items, item}
 use Rattle.job_values.specs.declared.fault.JobFault.{JobFault}
 use Rattle.job_values.specs.declared.fault.JobWhat.{JobWhat}
@@ -37,3 +38,12 @@ kept I step keeps before no_items after i e = subst I (ok_same e) i
 kept I step keeps before (item d ds) after i e =
     let one = bound (step before d) (λ more. each step more ds) after e in
     kept I step keeps one.0 ds after (keeps before d one.0 i one.1) one.2
+
+-- ---- a number in its limits
+
+both_true : (a b : Bool) → a ≡ true → b ≡ true → (a && b) ≡ true
+both_true true b e f = f
+both_true false b e f = e
+
+pub counted : (least most n : ℕ) → least ≤ n → n ≤ most → (nat_le least n && nat_le n most) ≡ true
+counted least most n low high = both_true _ _ (le-leb least n low) (le-leb n most high)

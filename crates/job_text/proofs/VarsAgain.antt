@@ -1,7 +1,6 @@
 -- Variables, as they are printed, are read as the same.
-use Rattle.std.proofs.Common.{◌≡◌, ℕ, ◌≤◌, Bool, true, false, List, [], ◌∷◌, ◌++◌, length, map, refl, ◌∙◌, subst, arith, append_assoc, append-nil}
-use Rattle.std.specs.Prelude.{◌&&◌, nat_le, Ok, codes}
-use Rattle.std.proofs.lemmas.Bool.{le-leb}
+use Rattle.std.proofs.Common.{◌≡◌, ℕ, true, false, List, [], ◌∷◌, ◌++◌, length, map, refl, ◌∙◌, subst, arith, append_assoc, append-nil}
+use Rattle.std.specs.Prelude.{Ok, codes}
 use Rattle.serde_json.specs.Data.{Data}
 use Rattle.serde_json.specs.View.{items_of}
 use Rattle.field_table.specs.declared.field_ref.FieldRef.{FieldRef}
@@ -16,7 +15,7 @@ use Rattle.job_table.specs.Table.{Varied, var, vars, var_name, var_take, field, 
 use Rattle.job_table.specs.Words.{is_among}
 use Rattle.job_text.proofs.CapturedAgain.{new_named}
 use Rattle.job_text.proofs.NewNames.{AllNew, all_new_more}
-use Rattle.job_text.proofs.Said.{bound, ok_same, kept}
+use Rattle.job_text.proofs.Said.{bound, counted, ok_same, kept}
 
 -- so many of these
 pub items_many : {A : Type 0} (value : A → Data) (xs : List A) → items_length (items_of (map value xs)) ≡ length xs
@@ -27,13 +26,6 @@ pub pairs_many : {A B : Type 0} (value : A → B → Data) (xs : List A) (ys : L
 pairs_many value [] ys e = refl
 pairs_many value (x ∷ xs) [] e = absurd (omega (arith, e))
 pairs_many value (x ∷ xs) (y ∷ ys) e = omega (arith, pairs_many value xs ys (omega (arith, e)))
-
-both_true : (a b : Bool) → a ≡ true → b ≡ true → (a && b) ≡ true
-both_true true b e f = f
-both_true false b e f = e
-
-pub counted : (least most n : ℕ) → least ≤ n → n ≤ most → (nat_le least n && nat_le n most) ≡ true
-counted least most n low high = both_true _ _ (le-leb least n low) (le-leb n most high)
 
 -- ---- what was read
 

@@ -1,9 +1,10 @@
 -- The canonical values of a job's parts, as JSON: the members of each object in byte order, with all that
 -- are optional.
-use Rattle.std.specs.Prelude.{ℕ, ◌+◌, ◌^◌, ◌==◌, List, [], ◌∷◌, ◌++◌, map, flat_map, nat_lt, if◌then◌else◌, slice_get, unwrap_or, codes}
+use Rattle.std.specs.Prelude.{ℕ, ◌+◌, ◌^◌, ◌==◌, ℤ, List, [], ◌∷◌, ◌++◌, map, flat_map, nat_lt, if◌then◌else◌, slice_get, unwrap_or, codes}
 use Rattle.std.specs.Fmt.{decimal}
 use Rattle.std.specs.Int.{bit_at}
 use Rattle.serde_json.specs.Data.{Data, unsigned, number, string, array, object, no_members, member}
+use Rattle.serde_json.specs.Find.{of_integer}
 use Rattle.serde_json.specs.View.{items_of}
 use Rattle.field_table.specs.FieldText.{field_text}
 use Rattle.field_table.specs.declared.field_ref.FieldRef.{FieldRef}
@@ -37,8 +38,28 @@ wide_value n = if nat_lt n (2 ^ 64) then number (unsigned n) else string (decima
 
 -- ---- captures and variables
 
-abbrev pub capture_value : List ℕ → List ℕ → Data
-capture_value name file = object (member (codes "file") (string file) (member (codes "name") (string name) no_members))
+-- a capture of version 1
+abbrev pub plain_capture : (name file : List ℕ) → Data
+plain_capture name file = object (member (codes "file") (string file) (member (codes "name") (string name) no_members))
+
+-- a capture with its offset and its skew
+abbrev pub clocked_capture : (name file : List ℕ) → (offset : ℤ) → (skew : ℕ) → Data
+clocked_capture name file offset skew = object (
+    member (codes "file") (string file) (
+    member (codes "name") (string name) (
+    member (codes "offset") (number (of_integer offset)) (
+    member (codes "skew") (number (unsigned skew)) no_members))))
+
+-- a capture, by the version of the declaration
+abbrev pub capture_value : (version : ℕ) → (name file : List ℕ) → (offset : ℤ) → (skew : ℕ) → Data
+capture_value version name file offset skew =
+    if version == 1 then plain_capture name file else clocked_capture name file offset skew
+
+-- a value for each capture, from lists of the same length
+abbrev pub capture_values : (version : ℕ) → (names files : List (List ℕ)) → (offsets : List ℤ) → (skews : List ℕ) → List Data
+capture_values version (name ∷ names) (file ∷ files) (offset ∷ offsets) (skew ∷ skews) =
+    capture_value version name file offset skew ∷ capture_values version names files offsets skews
+capture_values version _ _ _ _ = []
 
 abbrev pub field_value : FieldRef → Data
 field_value field = string (field_text field)

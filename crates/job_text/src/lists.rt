@@ -5,36 +5,96 @@ ghost use Rattle.serde_json.specs.Data.{array};
 ghost use Rattle.serde_json.specs.View.{view, items_of};
 ghost use Rattle.job_values.specs.Parsed.{shown};
 ghost use Rattle.job_table.specs.Question.{items_of as lists_of};
-ghost use Rattle.job_text.specs.Parts.{both_of, list_of, name_at, named, capture_value, field_value, var_value};
+ghost use Rattle.job_text.specs.Parts.{both_of, list_of, name_at, named, plain_capture, clocked_capture, capture_value, capture_values, field_value, var_value};
 
 use ds_base::{KeyList, NameList};
 use field_table::{FieldRef, print_field};
-use job_table::{FieldList, TakeList};
+use job_table::{FieldList, OffsetList, SkewList, TakeList};
 use serde_json::{Value, json, push};
 use std::alloc::{AllocError, Global};
 
-/// The captures as a value: their names and their files.
+/// The captures as a value, as a declaration of this version has them.
 pub fn captures_value(
     alloc: Global,
+    version: u32,
     names: &NameList,
     files: &NameList,
+    offsets: &OffsetList,
+    skews: &SkewList,
 ) -> Result<Value, AllocError>
-    requires { length files.now.items ≡ length names.now.items }
-    ensures { IfOk result (λ v. view v
-        ≡ array (items_of (both_of capture_value (shown names.now.items) (shown files.now.items)))) }
+    requires files { length files.now.items ≡ length names.now.items }
+    requires offsets { length offsets.now.items ≡ length names.now.items }
+    requires skews { length skews.now.items ≡ length names.now.items }
+    ensures { IfOk result (λ v. view v ≡ array (items_of
+        (capture_values version (shown names.now.items) (shown files.now.items) offsets.now.items skews.now.items))) }
 {
     let mut list = Vec::new(alloc);
     for i in 0..names.len() {
-        let capture = capture_value(alloc, nth(names, i), nth(files, i))?;
+        let name = nth(names, i);
+        let file = nth(files, i);
+        let capture = capture_value(
+            alloc,
+            version,
+            name,
+            file,
+            nth_offset(offsets, i),
+            nth_skew(skews, i),
+        )?;
         push(&mut list, capture)?;
     }
     Ok(Value::Array(list))
 }
 
-fn capture_value(alloc: Global, name: &str, file: &str) -> Result<Value, AllocError>
-    ensures { IfOk result (λ v. view v ≡ capture_value name.now file.now) }
+fn capture_value(
+    alloc: Global,
+    version: u32,
+    name: &str,
+    file: &str,
+    offset: i64,
+    skew: u64,
+) -> Result<Value, AllocError>
+    ensures { IfOk result (λ v. view v ≡ capture_value version name.now file.now offset skew) }
+{
+    match version {
+        1 => plain_capture(alloc, name, file),
+        _ => clocked_capture(alloc, name, file, offset, skew),
+    }
+}
+
+fn plain_capture(alloc: Global, name: &str, file: &str) -> Result<Value, AllocError>
+    ensures { IfOk result (λ v. view v ≡ plain_capture name.now file.now) }
 {
     json!(in alloc; {"file": file, "name": name})
+}
+
+fn clocked_capture(
+    alloc: Global,
+    name: &str,
+    file: &str,
+    offset: i64,
+    skew: u64,
+) -> Result<Value, AllocError>
+    ensures { IfOk result (λ v. view v ≡ clocked_capture name.now file.now offset skew) }
+{
+    json!(in alloc; {"file": file, "name": name, "offset": offset, "skew": skew})
+}
+
+// The offset of capture number `i`.
+#[tactic(auto, using(ds_base::proofs::Places::drop_at))]
+fn nth_offset(offsets: &OffsetList, i: u64) -> i64
+    requires { i < length offsets.now.items }
+    ensures { drop i offsets.now.items ≡ result ∷ drop (i + 1) offsets.now.items }
+{
+    *offsets.get(i)
+}
+
+// The skew of capture number `i`.
+#[tactic(auto, using(ds_base::proofs::Places::drop_at))]
+fn nth_skew(skews: &SkewList, i: u64) -> u64
+    requires { i < length skews.now.items }
+    ensures { drop i skews.now.items ≡ result ∷ drop (i + 1) skews.now.items }
+{
+    *skews.get(i)
 }
 
 /// The variables as a value: their names and their alternatives.

@@ -1,20 +1,20 @@
 -- The function of a text's tokens is its one lexing.
-use Rattle.std.proofs.Common.{◌≡◌, ℕ, zero, suc, ◌+◌, ◌<◌, ◌≤◌, Bool, ◌&&◌, true, false, List, [], ◌∷◌, length, drop, Option, Some, None, refl, sym, ap, ◌∙◌, subst, inl, inr, ◌⊎◌, cond, take, arith, lt-ltb}
+use Rattle.std.proofs.Common.{◌≡◌, ℕ, zero, suc, ◌+◌, ◌<◌, ◌≤◌, Bool, ◌&&◌, true, false, List, [], ◌∷◌, length, drop, Option, Some, None, refl, sym, ap, subst, inl, inr, ◌⊎◌, cond, take, arith, lt-ltb}
 use Rattle.std.proofs.lemmas.Bool.{le-ltb, ltb-true, ltb-false}
 use Rattle.std.proofs.lemmas.List.{length-drop}
 use Rattle.std.proofs.lemmas.List.Sums.{prefix_len-le-length}
 use Rattle.std.specs.List.{prefix_len}
 use Rattle.std.specs.Option.{option_or}
 use Rattle.std.specs.Prelude.{nat_lt, slice_index, option_map, ◌==◌}
-use Rattle.query_tokens.specs.Numbers.{is_digit, is_letter, is_number_byte, number_of}
+use Rattle.query_tokens.specs.Numbers.{is_digit, is_number_byte, number_of}
 use Rattle.query_tokens.specs.Words.{begins_word, is_word_byte, word_token}
 use Rattle.query_tokens.specs.Signs.{double_sign, single_sign, sign}
 use Rattle.query_tokens.specs.declared.token.Token.{Token}
 use Rattle.query_tokens.specs.declared.token.Token.TheVariants.{Number}
 use Rattle.query_tokens.proofs.Prefixes.{prefix_len_positive}
-use Rattle.query_tokens.specs.Lexing.{is_blank, behind_blanks, number_token, token_at, Stops, Lexes}
+use Rattle.query_tokens.specs.Lexing.{is_blank, behind_blanks, number_token, token_at, Lexes}
 use Rattle.query_tokens.specs.declared.lexer.Placed.{Placed}
-use Rattle.job_values.specs.Parsed.{Lexed, placed, lexed_at, lexed_from, lexed}
+use Rattle.job_values.specs.Parsed.{Lexed, placed, lexed_from, lexed}
 
 pub lexed_is : (n : ℕ) (text : List ℕ) (at : ℕ) (ps : List Placed) (stop : Option ℕ) → length text < at + n → Lexes text at ps stop → lexed_from n text at ≡ (ps, stop)
 unfolding lexed_from

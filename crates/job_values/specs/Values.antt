@@ -1,8 +1,8 @@
 -- Values of JSON, level by level.
-use Rattle.std.specs.Prelude.{ℕ, ◌+◌, Bool, not, List, [], ◌∷◌, Option, Some, None, Ok, option_and_then, bytes_eq, ⊤}
+use Rattle.std.specs.Prelude.{ℕ, ◌+◌, ℤ, Bool, not, List, [], ◌∷◌, Option, Some, None, Ok, option_and_then, bytes_eq, ⊤}
 use Rattle.std.specs.List.{list_any}
 use Rattle.serde_json.specs.Data.{Data, Items, no_items, item, Members, no_members, member}
-use Rattle.serde_json.specs.Find.{get, as_bool, as_number, as_u64, as_str, as_array, as_object}
+use Rattle.serde_json.specs.Find.{get, as_bool, as_number, as_u64, as_i64, as_str, as_array, as_object}
 use Rattle.job_values.specs.declared.member.Member.{Member}
 use Rattle.job_values.specs.declared.fault.JobWhat.TheVariants.{Missing, WrongKind, Stray}
 use Rattle.job_values.specs.Said.{Said, ◌>>=◌, or_fault, only_if}
@@ -12,6 +12,10 @@ use Rattle.job_values.specs.Said.{Said, ◌>>=◌, or_fault, only_if}
 -- a whole number of 0 to 2^64 - 1, written without a point and an exponent
 abbrev pub number : Member → ℕ → Data → Said ℕ
 number at i d = or_fault at i WrongKind (option_and_then as_u64 (as_number d))
+
+-- a whole number of -(2^63) to 2^63 - 1, written without a point and an exponent
+abbrev pub signed_number : Member → ℕ → Data → Said ℤ
+signed_number at i d = or_fault at i WrongKind (option_and_then as_i64 (as_number d))
 
 abbrev pub text : Member → ℕ → Data → Said (List ℕ)
 text at i d = or_fault at i WrongKind (as_str d)

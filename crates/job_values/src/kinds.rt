@@ -1,9 +1,9 @@
-//! What a value of JSON is: a number, a text, a flag, a list.
+//! What a value of JSON is: a number, a signed number, a text, a flag, a list.
 
 ghost use Rattle.std.specs.Prelude.{◌≡◌};
 ghost use Rattle.std.specs.Result.{result_map_both};
 ghost use Rattle.serde_json.specs.View.{view, items_view};
-ghost use Rattle.job_values.specs.Values.{number, text, flag, list};
+ghost use Rattle.job_values.specs.Values.{number, signed_number, text, flag, list};
 
 use crate::fault::{JobFault, JobWhat, fault_at};
 use crate::member::Member;
@@ -14,6 +14,16 @@ pub fn number(value: &Value, member: Member, index: u32) -> Result<u64, JobFault
     ensures { result ≡ number member index (view value.now) }
 {
     match value.as_u64() {
+        Some(n) => Ok(n),
+        None => Err(fault_at(member, index, JobWhat::WrongKind)),
+    }
+}
+
+/// The signed number that a value is: a whole number of -(2^63) to 2^63 - 1.
+pub fn signed_number(value: &Value, member: Member, index: u32) -> Result<i64, JobFault>
+    ensures { result ≡ signed_number member index (view value.now) }
+{
+    match value.as_i64() {
         Some(n) => Ok(n),
         None => Err(fault_at(member, index, JobWhat::WrongKind)),
     }

@@ -12,7 +12,7 @@ mod objects;
 mod wides;
 
 pub use fault::{JobFault, JobWhat, ReadJobFault, fault_at};
-pub use kinds::{flag, list, number, text};
+pub use kinds::{flag, list, number, signed_number, text};
 pub use law::{one_expression, one_field};
 pub use leaves::{expression_in, field_in};
 pub use member::Member;

@@ -11,6 +11,8 @@ pub enum Member {
     Captures,
     CapturesName,
     CapturesFile,
+    CapturesOffset,
+    CapturesSkew,
     Vars,
     VarsName,
     VarsTake,

@@ -1,11 +1,17 @@
-use Rattle.std.proofs.Common.{◌≡◌, [], length, drop}
-use Rattle.job_values.specs.Parsed.{shown}
+use Rattle.std.proofs.Common.{◌≡◌, ◌≤◌, length, drop, All}
+use Rattle.std.specs.Prelude.{IfSome, unsigned_abs}
 use Rattle.job_values.specs.Values.{each}
 use Rattle.serde_json.specs.View.{items_view}
-use Rattle.job_table.specs.Table.{capture}
+use Rattle.job_table.specs.Limits.{longest}
+use Rattle.job_table.specs.Table.{capture, captured_of, no_captures}
 use Rattle.job_table.proofs.capture_rows.captures.Given as goal
 
 abbrev pub invariant-loop-i : goal.invariant-loop-i
 invariant-loop-i l =
-    (each capture ([], []) (items_view l.list.items) ≡ each capture (shown l.names.items, shown l.files.items) (items_view (drop l.i l.list.items)))
-    × (length l.names.items ≡ l.i) × (length l.files.items ≡ l.i)
+    (each (capture l.version) no_captures (items_view l.list.items) ≡ each (capture l.version) (captured_of l.lists) (items_view (drop l.i l.list.items)))
+    × (length l.lists.names.items ≡ l.i)
+    × (length l.lists.files.items ≡ l.i)
+    × (length l.lists.offsets.items ≡ l.i)
+    × All (λ offset. unsigned_abs offset ≤ longest) l.lists.offsets.items
+    × (length l.lists.own_skews.items ≡ l.i)
+    × All (λ own. IfSome own (λ skew. skew ≤ longest)) l.lists.own_skews.items
