@@ -1,35 +1,33 @@
 -- The canonical text of a job that was read is read as the same job.
 use Rattle.std.proofs.Common.{◌≡◌, ℕ, ◌+◌, ◌<◌, ◌≤◌, List, [], ◌∷◌, ◌++◌, length, refl, sym, ap, ◌∙◌, subst, arith, All}
-use Rattle.std.specs.Prelude.{Ok, Some, nat_le, IsUtf8}
-use Rattle.std.proofs.lemmas.Bool.{le-leb}
+use Rattle.std.specs.Prelude.{◌==◌, ℤ, pos, Bool, true, false, map, Ok, Some, nat_le, IsUtf8}
+use Rattle.std.proofs.lemmas.Bool.{le-leb, eqb-true}
 use Rattle.std.proofs.lemmas.List.Elements.{All-head, All-tail}
 use Rattle.field_table.specs.declared.field_ref.FieldRef.{FieldRef}
-use Rattle.query_lang.specs.declared.names.Scope.TheVariants.{One}
-use Rattle.query_lang.specs.Expression.{Expression}
 use Rattle.serde_json.specs.Data.{Data}
 use Rattle.serde_json.specs.Read.{read}
 use Rattle.job_values.specs.declared.fault.JobWhat.TheVariants.{NotJson, Limit}
-use Rattle.job_values.specs.declared.member.Member.TheVariants.{Whole, Filter, Key}
+use Rattle.job_values.specs.declared.member.Member.TheVariants.{Whole, Key}
 use Rattle.job_values.specs.Said.{Said, ◌>>=◌, or_fault, only_if}
-use Rattle.job_values.specs.Parsed.{expression}
 use Rattle.job_values.specs.Values.{object, no_stray}
-use Rattle.job_text.specs.Parts.{capture_value, var_value, named}
+use Rattle.job_text.specs.Parts.{var_value, named}
 use Rattle.summary_spec.specs.Canonical.{canonical_data, canonical}
 use Rattle.summary_spec.specs.Declaration.{Declared}
-use Rattle.job_table.specs.Limits.{Counts, longest}
+use Rattle.job_table.specs.Limits.{newest_version, Counts, longest}
 use Rattle.summary_spec.specs.Lawful.{IsLawful}
 use Rattle.job_table.specs.QueryTable.{query}
 use Rattle.summary_spec.specs.Reads.{most_bytes, json, members, declaration, reads}
-use Rattle.job_table.specs.Table.{version, vxlan_port, captures, vars, filter_text, filter, key, window, skew, profile, is_free}
+use Rattle.job_table.specs.Table.{Captured, no_captures, version, vxlan_port, captures, skews_or, vars, filter, key, window, skew, profile, is_free}
 use Rattle.job_table.specs.Words.{is_identifier}
-use Rattle.job_text.proofs.CapturedAgain.{AllFiles, captures_kept, captures_again}
+use Rattle.job_text.proofs.CapturedAgain.{AllFiles, captures_kept, captures_again, captures_many}
+use Rattle.job_text.proofs.ClocksAgain.{offset_read, skew_read}
 use Rattle.summary_spec.proofs.Depths.{json_again}
 use Rattle.job_text.proofs.KeyAgain.{AllApart, AllOther, key_kept, numbers_again}
 use Rattle.summary_spec.proofs.Lengths.{short_enough}
 use Rattle.job_text.proofs.NewNames.{AllNew}
 use Rattle.job_text.proofs.QueryAgain.{query_again}
-use Rattle.job_text.proofs.Said.{bound, ok_same}
-use Rattle.job_text.proofs.VarsAgain.{AllTakes, vars_kept, vars_again, items_many, pairs_many, counted}
+use Rattle.job_text.proofs.Said.{bound, counted, ok_same}
+use Rattle.job_text.proofs.VarsAgain.{AllTakes, vars_kept, vars_again, items_many, pairs_many}
 
 -- what is known of a job that was read, beside that it is lawful
 pub record IsSaid (d : Declared) : Type 0 where
@@ -44,15 +42,15 @@ said v d e =
     let b = bound (no_stray Whole 0 members a.0) _ d a.2 in
     let c = bound (version v) _ d b.2 in
     let p = bound (vxlan_port v) _ d c.2 in
-    let cs = bound (captures v) _ d p.2 in
+    let cs = bound (captures c.0 v) _ d p.2 in
     let vs = bound (vars v) _ d cs.2 in
-    let f = bound (filter vs.0.0 cs.0.0 v) _ d vs.2 in
+    let f = bound (filter vs.0.0 cs.0.names v) _ d vs.2 in
     let k = bound (key vs.0.0 v) _ d f.2 in
     let w = bound (window v) _ d k.2 in
     let s = bound (skew v) _ d w.2 in
     let pr = bound (profile v) _ d s.2 in
-    let q = bound (query vs.0.0 cs.0.0 v) _ d pr.2 in
-    let kept = captures_kept v cs.0 cs.1 in
+    let q = bound (query vs.0.0 cs.0.names v) _ d pr.2 in
+    let kept = captures_kept c.0 v cs.0 cs.1 in
     subst IsSaid (ok_same q.2) (record {
       captures = kept.0;
       files = kept.1;
@@ -63,10 +61,54 @@ said v d e =
 -- ---- row by row
 
 module _ (d : Declared) (lawful : IsLawful d) (known : IsSaid d) where
-  captures_row : captures (canonical_data d) ≡ Ok (d.captures, d.files)
+  -- what is read of the offsets and of the skews that are printed
+  offsets_row : (first : Bool) → (d.version == 1) ≡ first → map (offset_read first) d.offsets ≡ d.offsets
+  offsets_row true e = all_zero d.offsets (lawful.first_version (eqb-true d.version 1 e)).offsets
+    where
+      all_zero : (offsets : List ℤ) → All (λ offset. offset ≡ pos 0) offsets → map (offset_read true) offsets ≡ offsets
+      all_zero [] all = refl
+      all_zero (o ∷ offsets) all =
+          ap (λ z. z ∷ map (offset_read true) offsets) (sym (All-head (λ offset. offset ≡ pos 0) o offsets all))
+          ∙ ap (λ os. o ∷ os) (all_zero offsets (All-tail (λ offset. offset ≡ pos 0) o offsets all))
+  offsets_row false e = same d.offsets
+    where
+      same : (offsets : List ℤ) → map (offset_read false) offsets ≡ offsets
+      same [] = refl
+      same (o ∷ offsets) = ap (λ os. o ∷ os) (same offsets)
+
+  skews_row : (first : Bool) → (d.version == 1) ≡ first → skews_or d.skew (map (skew_read first) d.skews) ≡ d.skews
+  skews_row true e = all_same d.skews (lawful.first_version (eqb-true d.version 1 e)).skews
+    where
+      all_same : (skews : List ℕ) → All (λ skew. skew ≡ d.skew) skews → skews_or d.skew (map (skew_read true) skews) ≡ skews
+      all_same [] all = refl
+      all_same (s ∷ skews) all =
+          ap (λ n. n ∷ skews_or d.skew (map (skew_read true) skews)) (sym (All-head (λ skew. skew ≡ d.skew) s skews all))
+          ∙ ap (λ ss. s ∷ ss) (all_same skews (All-tail (λ skew. skew ≡ d.skew) s skews all))
+  skews_row false e = same d.skews
+    where
+      same : (skews : List ℕ) → skews_or d.skew (map (skew_read false) skews) ≡ skews
+      same [] = refl
+      same (s ∷ skews) = ap (λ ss. s ∷ ss) (same skews)
+
+  abbrev captured : Captured
+  captured = record {
+    names = d.captures;
+    files = d.files;
+    offsets = map (offset_read (d.version == 1)) d.offsets;
+    own_skews = map (skew_read (d.version == 1)) d.skews;
+  }
+
+  captures_row : captures d.version (canonical_data d) ≡ Ok captured
   captures_row =
-      rw (pairs_many capture_value d.captures d.files lawful.files, counted 1 64 (length d.captures) lawful.captures.0 lawful.captures.1)
-      (captures_again [] [] d.captures d.files known.captures known.files lawful.files)
+      rw (captures_many d.version d.captures d.files d.offsets d.skews lawful.files lawful.offsets lawful.skews, counted 1 64 (length d.captures) lawful.captures.0 lawful.captures.1)
+      (captures_again d.version no_captures d.captures d.files d.offsets d.skews known.captures known.files lawful.offset_limits lawful.skew_limits lawful.files lawful.offsets lawful.skews)
+
+  version_row : version (canonical_data d) ≡ Ok d.version
+  version_row = rw (counted 1 newest_version d.version lawful.version.0 lawful.version.1) refl
+
+  -- the job with what is read of its offsets and its skews
+  clocks_row : ◌≡◌ {A = Said Declared} (Ok (record d { offsets = captured.offsets; skews = skews_or d.skew captured.own_skews })) (Ok d)
+  clocks_row = rw (offsets_row (d.version == 1) refl, skews_row (d.version == 1) refl) refl
 
   takes_all : (takes : List (List FieldRef)) → All (Counts 1 4) takes → AllTakes takes
   takes_all [] all = tt
@@ -107,14 +149,15 @@ module _ (d : Declared) (lawful : IsLawful d) (known : IsSaid d) where
 
   declared_again : declaration (canonical_data d) ≡ Ok d
   declared_again =
-      follows (vxlan_port (canonical_data d)) _ d.port d port_row
-      (follows (captures (canonical_data d)) _ (d.captures, d.files) d captures_row
+      follows (version (canonical_data d)) _ d.version d version_row
+      (follows (vxlan_port (canonical_data d)) _ d.port d port_row
+      (follows (captures d.version (canonical_data d)) _ captured d captures_row
       (follows (vars (canonical_data d)) _ (d.vars, d.takes) d vars_row
       (follows (filter d.vars d.captures (canonical_data d)) _ (d.filter_text, d.filter) d filter_row
       (follows (key d.vars (canonical_data d)) _ d.key d key_row
       (follows (window (canonical_data d)) _ d.window d window_row
       (follows (skew (canonical_data d)) _ d.skew d skew_row
-      (follows (query d.vars d.captures (canonical_data d)) _ d.query d query_row refl)))))))
+      (follows (query d.vars d.captures (canonical_data d)) _ d.query d query_row clocks_row))))))))
 
 -- ---- the whole
 

@@ -5,15 +5,15 @@ use Rattle.std.proofs.lemmas.Str.{is_utf8-from_IsUtf8}
 use Rattle.std.proofs.Math.Nat.{max-le}
 use Rattle.serde_json.specs.Data.{Data, depth}
 use Rattle.serde_json.specs.Read.{read, max_depth}
-use Rattle.job_text.specs.Parts.{named, capture_value, var_value}
-use Rattle.job_text.proofs.Depths.{listed, paired, up, none, question, capture, var}
+use Rattle.job_text.specs.Parts.{named, var_value}
+use Rattle.job_text.proofs.Depths.{listed, paired, up, none, question, captures, var}
 use Rattle.summary_spec.specs.Canonical.{canonical_data}
 use Rattle.summary_spec.specs.Declaration.{Declared}
 use Rattle.summary_spec.specs.Reads.{json}
 
 low : (d : Declared) → depth (canonical_data d) ≤ 6
 low d =
-    up _ 5 (max-le (up _ 4 (paired 4 capture_value (λ name file. more (capture name file)) d.captures d.files))
+    up _ 5 (max-le (up _ 4 (more (captures d.version d.captures d.files d.offsets d.skews)))
     (max-le (none 5)
     (max-le (up _ 4 (listed 4 (named d.vars) (λ _. none 4) d.key))
     (max-le (none 5)

@@ -2,14 +2,14 @@
 use Rattle.std.proofs.Common.{◌≡◌, List, ℕ, false, refl, ap, ◌∙◌}
 use Rattle.serde_json.specs.Data.{Data}
 use Rattle.serde_json.specs.Written.{has_float, compact_text}
-use Rattle.job_text.specs.Parts.{named, capture_value, var_value}
-use Rattle.job_text.proofs.Floats.{neither, listed, paired, question, var}
+use Rattle.job_text.specs.Parts.{named, var_value}
+use Rattle.job_text.proofs.Floats.{neither, listed, paired, captures, question, var}
 use Rattle.summary_spec.specs.Canonical.{canonical_data, canonical}
 use Rattle.summary_spec.specs.Declaration.{Declared}
 
 pub no_float : (d : Declared) → has_float (canonical_data d) ≡ false
 no_float d =
-    neither _ _ (paired capture_value (λ _ _. refl) d.captures d.files)
+    neither _ _ (captures d.version d.captures d.files d.offsets d.skews)
     (neither _ _ (listed (named d.vars) (λ _. refl) d.key)
     (neither _ _ (question d.vars d.captures d.query)
     (neither _ _ (paired var_value var d.vars d.takes) refl)))

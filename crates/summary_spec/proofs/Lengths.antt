@@ -6,7 +6,7 @@ use Rattle.serde_json.specs.View.{items_of}
 use Rattle.serde_json.specs.Written.{compact_text}
 use Rattle.job_table.specs.Table.{is_free}
 use Rattle.job_table.specs.Words.{is_identifier}
-use Rattle.job_text.specs.Parts.{both_of, named, capture_value, var_value, question_value}
+use Rattle.job_text.specs.Parts.{both_of, named, capture_values, var_value, question_value}
 use Rattle.job_text.proofs.CapturedAgain.{AllFiles}
 use Rattle.job_text.proofs.Lengths.{object_short, one_more, ended, string_short, list_short, any, names_short, free_short, identifier_short, named_short, captures_short, vars_short, decimal_short, question_short}
 use Rattle.job_text.proofs.NewNames.{AllNew}
@@ -28,9 +28,9 @@ pub short_enough : (d : Declared) → IsLawful d → AllNew is_identifier [] d.c
 short_enough d lawful points files names =
     let vars = names_short is_free free_short [] d.vars names in
     let captures = names_short is_identifier identifier_short [] d.captures points in
-    enough (object_short 639771
-    (one_more (codes "captures") (array (items_of (both_of capture_value d.captures d.files))) 8 114242 525477 (omega arith)
-    (omega (arith, captures_short false [] d.captures d.files points files, lawful.captures.1))
+    enough (object_short 646299
+    (one_more (codes "captures") (array (items_of (capture_values d.version d.captures d.files d.offsets d.skews))) 8 120770 525477 (omega arith)
+    (omega (arith, captures_short false d.version [] d.captures d.files d.offsets d.skews points files lawful.offset_limits lawful.skew_limits, lawful.captures.1))
     (one_more (codes "filter") (string d.filter_text) 6 6146 519291 (omega arith) (string_short d.filter_text 1024 lawful.filter.short)
     (one_more (codes "key") (array (items_of (map (named d.vars) d.key))) 3 3122 516147 (omega arith)
     (list_short (named d.vars) (λ _. Unit {0}) 194 16 (λ n _. named_short d.vars n vars) d.key (any d.key) lawful.key.1)
@@ -40,9 +40,9 @@ short_enough d lawful points files names =
     (one_more (codes "skew") (number (unsigned d.skew)) 4 20 16014 (omega arith) (number_short d.skew (omega (arith, lawful.skew)))
     (one_more (codes "vars") (array (items_of (both_of var_value d.vars d.takes))) 4 15794 192 (omega arith)
     (omega (arith, vars_short false [] d.vars d.takes names lawful.alternatives, lawful.vars.1))
-    (one_more (codes "version") (number (unsigned 1)) 7 1 145 (omega arith) (decimal_short 1 1 (omega arith) (omega arith) (omega arith))
+    (one_more (codes "version") (number (unsigned d.version)) 7 1 145 (omega arith) (decimal_short 1 d.version (omega arith) (omega (arith, lawful.version.1)) (omega (arith, lawful.version.1)))
     (one_more (codes "vxlan_port") (number (unsigned d.port)) 10 20 61 (omega arith) (number_short d.port (omega (arith, lawful.port.1)))
     (one_more (codes "window") (number (unsigned d.window)) 6 20 1 (omega arith) (number_short d.window (omega (arith, lawful.window))) ended)))))))))))
   where
-    enough : {n : ℕ} → n ≤ 639772 → n ≤ most_bytes
+    enough : {n : ℕ} → n ≤ 646300 → n ≤ most_bytes
     enough h = omega (arith, h)

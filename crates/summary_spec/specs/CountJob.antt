@@ -1,5 +1,5 @@
 -- The job of the command `count`.
-use Rattle.std.specs.Prelude.{ℕ, List, [], ◌∷◌, false, codes}
+use Rattle.std.specs.Prelude.{ℕ, pos, List, [], ◌∷◌, false, codes}
 use Rattle.ds_base.specs.Times.{hour}
 use Rattle.field_table.specs.declared.field_ref.FieldRef.{FieldRef}
 use Rattle.query_lang.specs.Expression.{Literal}
@@ -11,10 +11,13 @@ use Rattle.job_table.specs.Question.{Everything}
 -- port (RFC 7348 section 5), and the skew is an hour.
 abbrev pub count_job : FieldRef → (window : ℕ) → (file : List ℕ) → Declared
 count_job field window file = record {
+  version = 1;
   port = 4789;
   vars = codes "v" ∷ [];
   captures = codes "c" ∷ [];
   files = file ∷ [];
+  offsets = pos 0 ∷ [];
+  skews = hour ∷ [];
   takes = (field ∷ []) ∷ [];
   filter_text = codes "1";
   filter = Literal 1;

@@ -1,5 +1,5 @@
 -- What a job declares, without where it lies in memory.
-use Rattle.std.specs.Prelude.{ℕ, Bool, List}
+use Rattle.std.specs.Prelude.{ℕ, ℤ, Bool, List}
 use Rattle.ds_base.specs.Items.{Items}
 use Rattle.field_table.specs.declared.field_ref.FieldRef.{FieldRef}
 use Rattle.query_lang.specs.Expression.{Expression, expression_of}
@@ -10,10 +10,13 @@ pub use Rattle.job_table.specs.Question.{Manner, Same, Less, Table, Ruling, Ques
 
 -- what a job declares: names and texts are their bytes, variables and captures their numbers
 pub record Declared : Type 0 where
+  pub version : ℕ
   pub port : ℕ
   pub vars : List (List ℕ)
   pub captures : List (List ℕ)
   pub files : List (List ℕ)
+  pub offsets : List ℤ
+  pub skews : List ℕ
   pub takes : List (List FieldRef)
   pub filter_text : List ℕ
   pub filter : Expression
@@ -25,9 +28,12 @@ pub record Declared : Type 0 where
 
 -- the parts of a job as they lie in memory
 pub record Parts : Type 0 where
+  pub version : ℕ
   pub port : ℕ
   pub names : Names
   pub files : Items (Items ℕ)
+  pub offsets : Items ℤ
+  pub skews : Items ℕ
   pub takes : Items (Items FieldRef)
   pub filter_text : Items ℕ
   pub filter : Expr
@@ -40,10 +46,13 @@ pub record Parts : Type 0 where
 -- what they declare
 abbrev pub declared : Parts → Declared
 declared parts = record {
+  version = parts.version;
   port = parts.port;
   vars = items_of parts.names.vars.items;
   captures = items_of parts.names.captures.items;
   files = items_of parts.files.items;
+  offsets = parts.offsets.items;
+  skews = parts.skews.items;
   takes = items_of parts.takes.items;
   filter_text = parts.filter_text.items;
   filter = expression_of parts.filter;

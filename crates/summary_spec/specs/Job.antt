@@ -5,9 +5,12 @@ use Rattle.summary_spec.specs.Declaration.{Declared, Parts, declared}
 -- its parts
 abbrev pub parts_of : Job → Parts
 parts_of job = record {
+  version = job.version;
   port = job.port;
   names = job.names;
   files = job.files;
+  offsets = job.offsets;
+  skews = job.skews;
   takes = job.takes;
   filter_text = job.filter_text;
   filter = job.filter;

@@ -1,6 +1,7 @@
 -- Lawful-prop: a fact of being lawful has one proof, as a field of a struct wants it.
 use Rattle.std.specs.Prelude.{ℕ, ◌≡◌, List, Ok}
 use Rattle.std.specs.Coded.{×_prop, Unit-prop, le_prop}
+use Rattle.std.proofs.Math.IntN.{ℤ_set}
 use Rattle.std.proofs.Math.Nat.{ℕ_set}
 use Rattle.std.proofs.Props.{props}
 use Rattle.query_tokens.specs.declared.token.Operator.{Operator}
@@ -102,4 +103,4 @@ question_prop vars captures (Rewrites from to rules) = Prim.hlevel (le_prop, man
 question_prop vars captures (Tests text e) = Prim.hlevel (le_prop, gives_prop, terms_prop, variable_prop, scope_prop)
 
 pub Lawful-prop : (d : Declared) → IsProp (IsLawful d)
-Lawful-prop d = Prim.hlevel (ℕ_set, le_prop, gives_prop, terms_prop, variable_prop, scope_prop, question_prop)
+Lawful-prop d = Prim.hlevel (ℕ_set, ℤ_set, le_prop, gives_prop, terms_prop, variable_prop, scope_prop, question_prop)

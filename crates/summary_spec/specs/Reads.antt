@@ -8,7 +8,7 @@ use Rattle.job_values.specs.declared.fault.JobWhat.TheVariants.{NotJson, Limit}
 use Rattle.job_values.specs.Said.{Said, ◌>>=◌, or_fault, only_if}
 use Rattle.job_values.specs.Values.{object, no_stray}
 use Rattle.summary_spec.specs.Declaration.{Declared}
-use Rattle.job_table.specs.Table.{version, vxlan_port, captures, vars, filter, key, window, skew, profile}
+use Rattle.job_table.specs.Table.{version, vxlan_port, captures, skews_or, vars, filter, key, window, skew, profile}
 use Rattle.job_table.specs.QueryTable.{query}
 
 -- at most so many bytes
@@ -30,21 +30,24 @@ abbrev pub declaration : Data → Said Declared
 declaration d = do
   ms ← object Whole 0 d
   none ← no_stray Whole 0 members ms
-  one ← version d
+  version ← version d
   port ← vxlan_port d
-  captured ← captures d
+  captured ← captures version d
   varied ← vars d
-  filtered ← filter varied.0 captured.0 d
+  filtered ← filter varied.0 captured.names d
   key ← key varied.0 d
   window ← window d
   skew ← skew d
   profile ← profile d
-  query ← query varied.0 captured.0 d
+  query ← query varied.0 captured.names d
   Ok (record {
+    version = version;
     port = port;
     vars = varied.0;
-    captures = captured.0;
-    files = captured.1;
+    captures = captured.names;
+    files = captured.files;
+    offsets = captured.offsets;
+    skews = skews_or skew captured.own_skews;
     takes = varied.1;
     filter_text = filtered.0;
     filter = filtered.1;

@@ -8,7 +8,7 @@ ghost use Rattle.job_table.specs.Limits.{longest};
 use crate::job::Job;
 use ds_base::{HOUR, ItemList, KeyList, NameList, OutOfMemory};
 use field_table::FieldRef;
-use job_table::{FieldList, Query, TakeList, copied, put};
+use job_table::{FieldList, OffsetList, Query, SkewList, TakeList, copied, put};
 use query_lang::{Expr, Names};
 use std::alloc::Global;
 
@@ -29,14 +29,19 @@ impl Job {
         let vars: NameList = only(alloc, copied(alloc, "v")?)?;
         let captures: NameList = only(alloc, copied(alloc, "c")?)?;
         let files: NameList = only(alloc, copied(alloc, file)?)?;
+        let offsets: OffsetList = only(alloc, 0)?;
+        let skews: SkewList = only(alloc, HOUR)?;
         let take: FieldList = only(alloc, field)?;
         let takes: TakeList = only(alloc, take)?;
         let key: KeyList = only(alloc, 0)?;
         let filter_text = copied(alloc, "1")?;
         Ok(Job {
+            version: 1,
             port: 4789,
             names: Names { vars, captures },
             files,
+            offsets,
+            skews,
             takes,
             filter_text,
             filter: Expr::Number(1),

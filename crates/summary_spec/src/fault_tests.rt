@@ -6,8 +6,12 @@ use query_lang::QueryWhat;
 use std::alloc::Global;
 use std::test::Fail;
 
+// The job from its version to its second capture.
+const UP_TO_B: &str =
+    r#""version":1,"captures":[{"name":"s1","file":"a"},{"name":"s2","file":"b"}"#;
+
 // A part of the job, what stands in its place, and the fault: the member, the index and what.
-static FAULTS: [(&str, &str, Member, u32, JobWhat); 28] = [
+static FAULTS: [(&str, &str, Member, u32, JobWhat); 33] = [
     (LOOPS, "{", Member::Whole, 0, JobWhat::NotJson),
     (
         r#""skew""#,
@@ -18,10 +22,10 @@ static FAULTS: [(&str, &str, Member, u32, JobWhat); 28] = [
     ),
     (
         r#""version":1,"#,
-        r#""version":2,"#,
+        r#""version":3,"#,
         Member::Version,
         0,
-        JobWhat::Limit { value: 2 },
+        JobWhat::Limit { value: 3 },
     ),
     (
         r#""skew""#,
@@ -50,6 +54,45 @@ static FAULTS: [(&str, &str, Member, u32, JobWhat); 28] = [
         Member::CapturesFile,
         2,
         JobWhat::BadName,
+    ),
+    (
+        r#""file":"b"}"#,
+        r#""file":"b","offset":0}"#,
+        Member::Captures,
+        1,
+        JobWhat::Stray,
+    ),
+    (
+        UP_TO_B,
+        r#""version":2,"captures":[{"name":"s1","file":"a","offset":3600000000000},{"name":"s2","file":"b","offset":-3600000000001,"skew":""}"#,
+        Member::CapturesOffset,
+        1,
+        JobWhat::Limit {
+            value: 3_600_000_000_001,
+        },
+    ),
+    (
+        UP_TO_B,
+        r#""version":2,"captures":[{"name":"s1","file":"a"},{"name":"s2","file":"b","offset":9223372036854775808}"#,
+        Member::CapturesOffset,
+        1,
+        JobWhat::WrongKind,
+    ),
+    (
+        UP_TO_B,
+        r#""version":2,"captures":[{"name":"s1","file":"a","skew":3600000000000},{"name":"s2","file":"b","skew":3600000000001}"#,
+        Member::CapturesSkew,
+        1,
+        JobWhat::Limit {
+            value: 3_600_000_000_001,
+        },
+    ),
+    (
+        UP_TO_B,
+        r#""version":2,"captures":[{"name":"s1","file":"a","skew":-1},{"name":"s2","file":"b"}"#,
+        Member::CapturesSkew,
+        0,
+        JobWhat::WrongKind,
     ),
     (
         r#"{"name":"ttl","take":["ipv4[-1].ttl"]}"#,

@@ -5,7 +5,7 @@ ghost use Rattle.summary_spec.specs.Lawful.{IsLawful};
 ghost use Rattle.summary_spec.specs.Propositions.{Lawful-prop};
 
 use ds_base::{KeyList, NameList, Text};
-use job_table::{Query, TakeList};
+use job_table::{OffsetList, Query, SkewList, TakeList};
 use query_lang::{Expr, Names};
 
 /// A job. Whoever holds one knows that it is lawful: its numbers of variables and captures are in
@@ -13,12 +13,19 @@ use query_lang::{Expr, Names};
 /// its names.
 #[derive(Drop)]
 pub struct Job {
+    /// The version of its declaration, 1 or 2.
+    pub version: u32,
     /// The UDP port of VXLAN.
     pub port: u16,
     /// The names of the variables and of the captures.
     pub names: Names,
     /// The file of each capture.
     pub files: NameList,
+    /// What is added to the times of each capture, in nanoseconds: at most an hour either way.
+    pub offsets: OffsetList,
+    /// By how much less than the newest before it the time of a record of each capture may be, in
+    /// nanoseconds.
+    pub skews: SkewList,
     /// The alternatives of each variable.
     pub takes: TakeList,
     /// The filter as it was given.
@@ -29,16 +36,19 @@ pub struct Job {
     pub key: KeyList,
     /// How long after a group's first its members may be, in nanoseconds.
     pub window: u64,
-    /// How long before the newest record of its capture a record may be, in nanoseconds.
+    /// The skew of the captures that declare none of their own, in nanoseconds.
     pub skew: u64,
     /// Whether the delays between captures are reported.
     pub profile: bool,
     /// What is asked of each group.
     pub query: Query,
     pub ghost lawful: { IsLawful (declared (record {
+      version = version;
       port = port;
       names = names;
       files = files;
+      offsets = offsets;
+      skews = skews;
       takes = takes;
       filter_text = filter_text;
       filter = filter;
@@ -48,9 +58,12 @@ pub struct Job {
       profile = profile;
       query = query;
     })) } by { Lawful-prop (declared (record {
+      version = version;
       port = port;
       names = names;
       files = files;
+      offsets = offsets;
+      skews = skews;
       takes = takes;
       filter_text = filter_text;
       filter = filter;

@@ -5,7 +5,7 @@ ghost use Rattle.serde_json.specs.Data.{unsigned, boolean, number, string, array
 ghost use Rattle.serde_json.specs.Read.{read};
 ghost use Rattle.serde_json.specs.View.{view, items_of};
 ghost use Rattle.job_values.specs.Parsed.{shown};
-ghost use Rattle.job_text.specs.Parts.{both_of, list_of, name_at, named, capture_value, field_value, var_value};
+ghost use Rattle.job_text.specs.Parts.{both_of, list_of, name_at, named, capture_values, field_value, var_value};
 ghost use Rattle.summary_spec.specs.Canonical.{canonical_data, canonical};
 ghost use Rattle.job_table.specs.Question.{items_of as lists_of};
 ghost use Rattle.summary_spec.specs.Job.{declared_of};
@@ -20,9 +20,10 @@ use std::alloc::{AllocError, Global};
 
 impl Job {
     /// The canonical text of the job: JSON without blanks, the members of each object in byte order,
-    /// with all that are optional. The words of a pattern are joined by one blank, exits stand in
-    /// rising capture number, and a wide number from 2^64 on is a text. Filter and expression stand
-    /// as they were given. The error is want of memory.
+    /// with all that are optional: from version 2 on also the offset and the skew of each capture. The
+    /// words of a pattern are joined by one blank, exits stand in rising capture number, and a wide
+    /// number from 2^64 on is a text. Filter and expression stand as they were given. The error is
+    /// want of memory.
     pub fn print(&self, alloc: Global) -> Result<Text, OutOfMemory>
         ensures text { IfOk result (λ text. text.items ≡ canonical (declared_of self.now)) }
         ensures reads_back { IfOk result (λ text. (bytes : List ℕ)
@@ -48,7 +49,14 @@ fn job_text(alloc: Global, job: &Job) -> Result<String, AllocError>
 fn job_value(alloc: Global, job: &Job) -> Result<Value, AllocError>
     ensures { IfOk result (λ v. view v ≡ canonical_data (declared_of job.now)) }
 {
-    let captures = captures_value(alloc, &job.names.captures, &job.files)?;
+    let captures = captures_value(
+        alloc,
+        job.version,
+        &job.names.captures,
+        &job.files,
+        &job.offsets,
+        &job.skews,
+    )?;
     let key = key_value(alloc, &job.names.vars, &job.key)?;
     let query = question_value(alloc, &job.names, &job.query)?;
     let vars = vars_value(alloc, &job.names.vars, &job.takes)?;
@@ -72,14 +80,14 @@ fn whole(
         member (codes "query") (view query) (
         member (codes "skew") (number (unsigned job.now.skew)) (
         member (codes "vars") (view vars) (
-        member (codes "version") (number (unsigned 1)) (
+        member (codes "version") (number (unsigned job.now.version)) (
         member (codes "vxlan_port") (number (unsigned job.now.port)) (
         member (codes "window") (number (unsigned job.now.window)) no_members))))))))))) }
 {
     json!(in alloc; {
         "window": job.window,
         "vxlan_port": job.port,
-        "version": 1u64,
+        "version": job.version,
         "vars": vars,
         "skew": job.skew,
         "query": query,

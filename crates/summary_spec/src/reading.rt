@@ -9,7 +9,10 @@ ghost use Rattle.summary_spec.specs.Job.{declared_of};
 ghost use Rattle.summary_spec.specs.Reads.{declaration, json, most_bytes, reads};
 
 use crate::job::Job;
-use job_table::{captures, filter, key, profile, query, skew, vars, version, vxlan_port, window};
+use job_table::{
+    CaptureLists, captures, filter, key, profile, query, skew, skews, vars, version, vxlan_port,
+    window,
+};
 use job_values::{JobWhat, Member, ReadJobFault, fault_at, no_stray, object};
 use query_lang::Names;
 use serde_json::Value;
@@ -71,9 +74,14 @@ fn declaration(alloc: Global, value: &Value) -> Result<Job, ReadJobFault>
         Member::Whole,
         0,
     )?;
-    version(value)?;
+    let version = version(value)?;
     let port = vxlan_port(value)?;
-    let (captures, files) = captures(alloc, value)?;
+    let CaptureLists {
+        names: captures,
+        files,
+        offsets,
+        own_skews,
+    } = captures(alloc, value, version)?;
     let (vars, takes) = vars(alloc, value)?;
     let names = Names { vars, captures };
     let (filter_text, filter) = filter(alloc, value, &names)?;
@@ -82,10 +90,14 @@ fn declaration(alloc: Global, value: &Value) -> Result<Job, ReadJobFault>
     let skew = skew(value)?;
     let profile = profile(value)?;
     let query = query(alloc, value, &names)?;
+    let skews = skews(alloc, &own_skews, skew)?;
     Ok(Job {
+        version,
         port,
         names,
         files,
+        offsets,
+        skews,
         takes,
         filter_text,
         filter,

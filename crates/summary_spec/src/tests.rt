@@ -15,6 +15,16 @@ pub(crate) const LOOPS: &str =
 const CANONICAL: &str =
     r#"{"captures":[{"file":"a","name":"s1"},{"file":"b","name":"s2"},{"file":"c","name":"s3"}],"filter":"1","key":["id"],"profile":false,"query":{"hop":"ttl","kind":"loop"},"skew":0,"vars":[{"name":"id","take":["ipv4[-1].id"]},{"name":"ttl","take":["ipv4[-1].ttl"]}],"version":1,"vxlan_port":4789,"window":1000000}"#;
 
+// Its captures, those of a job of version 2, and the canonical text of these.
+const CAPTURES: &str =
+    r#""version":1,"captures":[{"name":"s1","file":"a"},{"name":"s2","file":"b"},{"name":"s3","file":"c"}]"#;
+
+const CLOCKED: &str =
+    r#""version":2,"captures":[{"name":"s1","file":"a"},{"skew":7,"name":"s2","offset":-5,"file":"b"},{"name":"s3","file":"c","offset":3600000000000}]"#;
+
+const CLOCKED_CANONICAL: &str =
+    r#"{"captures":[{"file":"a","name":"s1","offset":0,"skew":0},{"file":"b","name":"s2","offset":-5,"skew":7},{"file":"c","name":"s3","offset":3600000000000,"skew":0}],"filter":"1","key":["id"],"profile":false,"query":{"hop":"ttl","kind":"loop"},"skew":0,"vars":[{"name":"id","take":["ipv4[-1].id"]},{"name":"ttl","take":["ipv4[-1].ttl"]}],"version":2,"vxlan_port":4789,"window":1000000}"#;
+
 // Its query.
 pub(crate) const HOP: &str = r#"{"kind":"loop","hop":"ttl"}"#;
 
@@ -64,6 +74,12 @@ fn jobs_are_printed_so_that_they_read_back(rt: HostRuntime) -> Result<(), Fail> 
     )?;
     let text = printed(rt.alloc(), doubled.as_str())?;
     assert_eq!(rt; text.as_str(), CANONICAL);
+    // From version 2 on each capture has its offset and its skew.
+    let clocked = replaced(rt.alloc(), LOOPS, CAPTURES, CLOCKED)?;
+    let text = printed(rt.alloc(), clocked.as_str())?;
+    assert_eq!(rt; text.as_str(), CLOCKED_CANONICAL);
+    let again = printed(rt.alloc(), text.as_str())?;
+    assert_eq!(rt; again.as_str(), CLOCKED_CANONICAL);
     for (query, canonical) in &QUERIES {
         let text = replaced(rt.alloc(), LOOPS, HOP, query)?;
         let expected = replaced(
