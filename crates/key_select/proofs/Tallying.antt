@@ -1,5 +1,5 @@
 -- A tally that takes up one record more.
-use Rattle.std.proofs.Common.{ℕ, List, [], ◌∷◌, ◌++◌, ◌+◌, ◌≡◌, Bool, Option, Some, max, fold, map, length, refl, sym, ap, ◌∙◌, append_assoc, arith, length-append, cond}
+use Rattle.std.proofs.Common.{ℕ, w64, to_z, of_z, List, [], ◌∷◌, ◌++◌, ◌+◌, ◌≡◌, Bool, Option, Some, max, fold, map, length, refl, sym, ap, ◌∙◌, append_assoc, arith, length-append, cond}
 use Rattle.std.specs.Prelude.{count_by}
 use Rattle.std.proofs.lemmas.List.{append-nil}
 use Rattle.std.proofs.lemmas.List.Sums.{sum_by-append}
@@ -9,10 +9,11 @@ use Rattle.query_lang.specs.Groups.{greatest}
 use Rattle.summary_spec.specs.Declaration.{Declared}
 use Rattle.key_select.specs.declared.tally.Tally.{Tally}
 use Rattle.key_select.specs.Sum.{sum_at}
-use Rattle.key_select.specs.Times.{record_time}
+use Rattle.key_select.specs.Times.{moved, record_time}
 use Rattle.key_select.specs.Late.{greatest_time, is_late}
 use Rattle.key_select.specs.Fates.{Fate, Unmatched, Late, Accepted, fate_by, fate_of, fates_after, fates_of, is_unmatched, is_too_late, summaries_of, accepted_of, accepted_after}
 use Rattle.key_select.specs.Tally.{Tallies, newest_after}
+use Rattle.key_select.proofs.Jobs.{offset_read}
 
 -- ---- in two parts
 
@@ -60,13 +61,18 @@ greatest_time-append job capture rs r = ap greatest (times-append job capture rs
 count-append : (p : Fate → Bool) (fates : List Fate) (fate : Fate) → count_by p (fates ++ fate ∷ []) ≡ count_by p fates + count_by p (fate ∷ [])
 count-append p fates fate = sum_by-append (λ x. cond (p x) 1 0) fates (fate ∷ [])
 
+-- the time of a record by the tally's offset, which lies in a signed word
+pub time_here : (job : Declared) (capture : ℕ) (tally : Tally) (taken : List Captured) (r : Captured) (time : ℕ)
+    → Tallies job capture tally taken → time ≡ moved (to_z w64 (of_z w64 tally.offset)) r.time → time ≡ record_time job capture r
+time_here job capture tally taken r time h e = e ∙ ap (λ offset. moved offset r.time) (offset_read tally.offset tally.near ∙ h.offset)
+
 -- what becomes of a record with this time, by its summary and by the newest time of the tally of those before it
 pub fate_here : (job : Declared) (capture : ℕ) (tally : Tally) (taken : List Captured) (r : Captured) (time : ℕ) (o : Option Summary) (late : Bool)
-    → Tallies job capture tally taken → time ≡ record_time job capture r → sum_at job tally.capture time r ≡ o → is_late time job.skew tally.newest ≡ late
+    → Tallies job capture tally taken → time ≡ record_time job capture r → sum_at job tally.capture time r ≡ o → is_late time tally.skew tally.newest ≡ late
     → fate_by o late ≡ fate_of job capture taken r
 fate_here job capture tally taken r time o late h e summed behind =
-    let same : fate_by (sum_at job tally.capture time r) (is_late time job.skew tally.newest) ≡ fate_of job capture taken r = rw (h.capture_is, h.newest, e) refl in
-    sym (ap (λ o. fate_by o (is_late time job.skew tally.newest)) summed ∙ ap (fate_by o) behind) ∙ same
+    let same : fate_by (sum_at job tally.capture time r) (is_late time tally.skew tally.newest) ≡ fate_of job capture taken r = rw (h.capture_is, h.newest, h.skew, e) refl in
+    sym (ap (λ o. fate_by o (is_late time tally.skew tally.newest)) summed ∙ ap (fate_by o) behind) ∙ same
 
 -- a record of this fate and time was counted
 pub record CountsOne (fate : Fate) (time : ℕ) (old new : Tally) : Type 0 where
@@ -76,6 +82,8 @@ pub record CountsOne (fate : Fate) (time : ℕ) (old new : Tally) : Type 0 where
   pub late : new.late ≡ old.late + count_by is_too_late (fate ∷ [])
   pub accepted : new.accepted ≡ old.accepted + length (summaries_of (fate ∷ []))
   pub newest : new.newest ≡ newest_after time old.newest
+  pub offset : new.offset ≡ old.offset
+  pub skew : new.skew ≡ old.skew
 
 -- a tally of some records that counts one more is that of all of them
 pub tallies_more : (job : Declared) (capture : ℕ) (old new : Tally) (taken : List Captured) (r : Captured) (time : ℕ) (fate : Fate)
@@ -89,6 +97,8 @@ tallies_more job capture old new taken r time fate h e is k =
     let summaries = ap summaries_of fates ∙ summaries_of-append (fates_of job capture taken) (fate ∷ []) in
     record {
       capture_is = k.capture ∙ h.capture_is;
+      offset = k.offset ∙ h.offset;
+      skew = k.skew ∙ h.skew;
       records = omega (arith, k.records, h.records, length-append taken (r ∷ []));
       unmatched = k.unmatched ∙ ap (λ n. n + count_by is_unmatched (fate ∷ [])) h.unmatched ∙ sym unmatched;
       late = k.late ∙ ap (λ n. n + count_by is_too_late (fate ∷ [])) h.late ∙ sym late;

@@ -3,6 +3,7 @@ use Rattle.std.specs.Prelude.{ℕ, List, ◌≡◌, ◌+◌, max, length, count_
 use Rattle.pcap_reader.specs.Captured.{Captured}
 use Rattle.summary_spec.specs.Declaration.{Declared}
 use Rattle.key_select.specs.declared.tally.Tally.{Tally}
+use Rattle.key_select.specs.Times.{capture_offset, capture_skew}
 use Rattle.key_select.specs.Late.{greatest_time}
 use Rattle.key_select.specs.Fates.{fates_of, accepted_of, is_unmatched, is_too_late}
 
@@ -10,7 +11,7 @@ use Rattle.key_select.specs.Fates.{fates_of, accepted_of, is_unmatched, is_too_l
 abbrev pub capture_of : Tally → ℕ
 capture_of tally = tally.capture
 
--- the greatest time of the records that it took up, if there is one
+-- the greatest adjusted time of the records that it took up, if there is one
 abbrev pub newest_of : Tally → Option ℕ
 newest_of tally = tally.newest
 
@@ -21,6 +22,8 @@ records_taken tally = tally.records
 -- the tally is that of these first records of the capture, by the job
 pub record Tallies (job : Declared) (capture : ℕ) (tally : Tally) (taken : List Captured) : Type 0 where
   pub capture_is : tally.capture ≡ capture
+  pub offset : tally.offset ≡ capture_offset job capture
+  pub skew : tally.skew ≡ capture_skew job capture
   pub records : tally.records ≡ length taken
   pub unmatched : tally.unmatched ≡ count_by is_unmatched (fates_of job capture taken)
   pub late : tally.late ≡ count_by is_too_late (fates_of job capture taken)
@@ -40,3 +43,5 @@ Passes time old new = (new.capture ≡ old.capture)
     × (new.late ≡ old.late)
     × (new.accepted ≡ old.accepted)
     × (new.newest ≡ newest_after time old.newest)
+    × (new.offset ≡ old.offset)
+    × (new.skew ≡ old.skew)

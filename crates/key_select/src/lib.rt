@@ -1,5 +1,5 @@
-//! From a record of a capture to its summary, by what a job declares: the values of its variables,
-//! its key, the filter; whether it comes too late; how the records of a capture fared; and the
+//! From a record of a capture to its summary, by what a job declares: its adjusted time, the values of
+//! its variables, its key, the filter; whether it comes too late; how the records of a capture fared; and the
 //! number of the shard that a key belongs to.
 #![tactic(auto)]
 
@@ -21,3 +21,4 @@ pub use late::is_late;
 pub use laws::{accepted_in_parts, later_from_mark};
 pub use summary::select;
 pub use tally::Tally;
+pub use time::adjusted;

@@ -1,6 +1,7 @@
 //! How the records of one capture fare: none, late or accepted.
-ghost use Rattle.std.specs.Prelude.{◌≡◌, ◌≤◌, ◌<◌, ◌+◌, ◌∷◌, ◌++◌, [], ◌^◌, ℕ, List, Some, length, max, option_to_list, IfSome};
+ghost use Rattle.std.specs.Prelude.{◌≡◌, ◌≤◌, ◌<◌, ◌+◌, ◌∷◌, ◌++◌, [], ◌^◌, ℕ, List, Some, length, max, option_to_list, unsigned_abs, IfSome};
 ghost use Rattle.std.proofs.Props.{props};
+ghost use Rattle.ds_base.specs.Times.{hour};
 ghost use Rattle.pcap_reader.specs.Captured.{Captured};
 ghost use Rattle.pcap_reader.specs.Lent.{captured, IsLawful};
 ghost use Rattle.summary_spec.specs.Declaration.{Declared};
@@ -9,7 +10,7 @@ ghost use Rattle.key_select.specs.Fates.{accepted_after, counts_of};
 
 use crate::late::is_late;
 use crate::summary::select_at;
-use crate::time::record_time;
+use crate::time::{moved, offset_of, skew_of};
 use ds_base::{Counts, Summary};
 use pcap_reader::RecordRef;
 use summary_spec::Job;
@@ -19,6 +20,10 @@ use summary_spec::Job;
 pub struct Tally {
     /// The capture's number in the job.
     capture: u32,
+    /// The capture's offset by the job, in nanoseconds.
+    offset: i64,
+    /// The capture's skew by the job, in nanoseconds.
+    skew: u64,
     /// How many records there were.
     records: u64,
     /// How many of them give no summary.
@@ -27,8 +32,10 @@ pub struct Tally {
     late: u64,
     /// How many others there were, whose summaries are accepted.
     accepted: u64,
-    /// The greatest time of a record, in nanoseconds since 1970.
+    /// The greatest adjusted time of a record, in nanoseconds since 1970.
     newest: Option<u64>,
+    ghost near: { unsigned_abs offset ≤ hour },
+    ghost short: { skew ≤ hour },
     ghost few: { unmatched + late + accepted ≤ records },
     ghost early: { IfSome newest (λ n. n < 2 ^ 63) } by { Prim.hlevel props },
 }
@@ -36,14 +43,17 @@ pub struct Tally {
 impl Tally {
     ghost use Rattle.key_select.specs.Tally.{Tallies, capture_of, newest_of, records_taken, Passes};
 
-    /// No record of the capture with this number.
-    pub fn new(capture: u32) -> Self
-        ensures tallies { (job : Declared) → Tallies job capture result [] }
+    /// No record of this capture of the job, whose offset and skew the tally keeps.
+    pub fn new(job: &Job, capture: u32) -> Self
+        requires { capture < length job.now.names.captures.items }
+        ensures tallies { Tallies (declared_of job.now) capture result [] }
         ensures capture { capture_of result ≡ capture }
         ensures records { records_taken result ≡ 0 }
     {
         Tally {
             capture,
+            offset: offset_of(job, capture),
+            skew: skew_of(job, capture),
             records: 0,
             unmatched: 0,
             late: 0,
@@ -52,7 +62,8 @@ impl Tally {
         }
     }
 
-    /// Takes the next record up, and gives its summary where that is accepted. It takes no memory.
+    /// Takes the next record up, and gives its summary where that is accepted. The job is that of `new`.
+    /// It takes no memory.
     pub fn take_up(&mut self, job: &Job, r: &RecordRef<'_>) -> Option<Summary>
         requires capture { capture_of self.old < length job.now.names.captures.items }
         requires lawful { IsLawful (captured r.now) }
@@ -64,8 +75,8 @@ impl Tally {
         ensures capture { capture_of self.new ≡ capture_of self.old }
         ensures records { records_taken self.new ≡ records_taken self.old + 1 }
     {
-        let time = record_time(r);
-        let late = is_late(time, job.skew, self.newest);
+        let time = moved(self.offset, r.time);
+        let late = is_late(time, self.skew, self.newest);
         let found = select_at(job, self.capture, time, r);
         self.pass(time);
         let Some(summary) = found else {
@@ -80,7 +91,8 @@ impl Tally {
         Some(summary)
     }
 
-    /// The greatest time of the records that were taken up, in nanoseconds since 1970. None: there was none.
+    /// The greatest adjusted time of the records that were taken up, in nanoseconds since 1970. None:
+    /// there was none.
     pub fn newest(&self) -> Option<u64>
         ensures { result ≡ newest_of self.now }
     {

@@ -2,7 +2,7 @@
 ghost use Rattle.std.specs.Prelude.{◌≡◌, ◌<◌, ◌+◌, length};
 ghost use Rattle.key_select.specs.Tally.{capture_of, records_taken};
 
-use crate::{Tally, select, shard};
+use crate::{Tally, adjusted, select, shard};
 use ds_base::{Counts, Nums, Stamp, Summary};
 use pcap_reader::RecordRef;
 use std::alloc::Global;
@@ -10,9 +10,9 @@ use std::process::Abort;
 use std::test::Fail;
 use summary_spec::Job;
 
-/// A job of one capture. The packet has both alternatives of `id`, and of `ttl` only the latter.
+/// A job of one capture, whose clock is 2 ns fast. The packet has both alternatives of `id`, and of `ttl` only the latter.
 const JOB: &str =
-    r#"{"version":1,"captures":[{"name":"c","file":"f"}],"vars":[{"name":"id","take":["ipv4[-1].id","ipv4[-1].ttl"]},{"name":"ttl","take":["ipv6[0].hops","ipv4[-1].ttl"]}],"key":["id"],"filter":"id != 5","window":0,"skew":1000,"query":{"kind":"all"}}"#;
+    r#"{"version":2,"captures":[{"name":"c","file":"f","offset":-2,"skew":1000}],"vars":[{"name":"id","take":["ipv4[-1].id","ipv4[-1].ttl"]},{"name":"ttl","take":["ipv6[0].hops","ipv4[-1].ttl"]}],"key":["id"],"filter":"id != 5","window":0,"skew":0,"query":{"kind":"all"}}"#;
 
 /// Ethernet, IPv4 with the identification 7 and the hop limit 64, and UDP.
 static PACKET: [u8; 42] = [
@@ -62,7 +62,7 @@ fn each_variable_takes_its_first_alternative(rt: HostRuntime) -> Result<(), Fail
     let job = job(&rt, rt.alloc())?;
     assert!(rt; job.names.captures.len() == 1);
     let found = select(&job, 0, &seen(3, 5, &PACKET));
-    assert_eq!(rt; found, Some(summary_of(5, 3, 7)));
+    assert_eq!(rt; found, Some(summary_of(3, 3, 7)));
     assert!(rt; select(&job, 0, &seen(3, 5, &PACKET[..33])).is_none());
     Ok(())
 }
@@ -91,7 +91,7 @@ fn late_records_are_counted_and_every_record_raises_the_newest(
 ) -> Result<(), Fail> {
     let job = job(&rt, rt.alloc())?;
     assert!(rt; job.names.captures.len() == 1);
-    let mut tally = Tally::new(0);
+    let mut tally = Tally::new(&job, 0);
     assert_eq!(rt; tally.newest(), None);
     // As late as the skew allows, and a nanosecond later.
     assert!(rt; take(&rt, &mut tally, &job, 0, (1_000_002_000, Some(1))));
@@ -101,7 +101,7 @@ fn late_records_are_counted_and_every_record_raises_the_newest(
     assert!(rt; !take(&rt, &mut tally, &job, 3, (1_000_009_000, None)));
     assert!(rt; !take(&rt, &mut tally, &job, 4, (1_000_009_000, Some(5))));
     assert!(rt; !take(&rt, &mut tally, &job, 5, (1_000_007_999, Some(6))));
-    assert_eq!(rt; tally.newest(), Some(1_000_009_000));
+    assert_eq!(rt; tally.newest(), Some(1_000_008_998));
     let wanted = Counts {
         records: 6,
         unmatched: 2,
@@ -110,6 +110,17 @@ fn late_records_are_counted_and_every_record_raises_the_newest(
         cut: true,
     };
     assert_eq!(rt; tally.counts(true), wanted);
+    Ok(())
+}
+
+#[test]
+fn times_are_moved_by_the_offset_and_never_below_0(rt: HostRuntime) -> Result<(), Fail> {
+    let job = job(&rt, rt.alloc())?;
+    assert!(rt; job.names.captures.len() == 1);
+    for (time, wanted) in [(0, 0), (1, 0), (2, 0), (3, 1), (1_000_000_000, 999_999_998)] {
+        assert!(rt; time < 10_000_000_000);
+        assert_eq!(rt; adjusted(&job, 0, time), wanted);
+    }
     Ok(())
 }
 
