@@ -39,7 +39,7 @@ pub(crate) fn gather_capture<S: Source>(
     let Ok(mut reading) = CaptureReading::new(alloc, PIECE) else {
         return Err(CaptureFault::OutOfMemory);
     };
-    let mut tally = Tally::new(capture);
+    let mut tally = Tally::new(job, capture);
     gather_records(job, source, &mut reading, &mut tally, accepted)?;
     match reading.finish() {
         Ok(tail) => Ok(tally.counts(tail.cut)),

@@ -13,7 +13,7 @@ pub gather_records-requires-clause-untaken : goal.gather_records-requires-clause
 gather_records-requires-clause-untaken g c =
     let job = declared_of c.args.job.now in
     let P : ℕ → Type 0 = λ capture. Collects job capture c.new-tally.result c.args.accepted.now.items c.args.accepted.now.items [] in
-    subst P (sym c.new-tally.ensures.capture) record { tallies = c.new-tally.ensures.tallies job; accepted = sym (append-nil c.args.accepted.now.items) }
+    subst P (sym c.new-tally.ensures.capture) record { tallies = c.new-tally.ensures.tallies; accepted = sym (append-nil c.args.accepted.now.items) }
 
 pub returns-in-Ok-finish-clause-ends : goal.returns-in-Ok-finish-clause-ends
 returns-in-Ok-finish-clause-ends g c =
