@@ -82,6 +82,8 @@ fn member_text(member: Member) -> &'static str
         Member::Captures => "captures",
         Member::CapturesName => "captures.name",
         Member::CapturesFile => "captures.file",
+        Member::CapturesOffset => "captures.offset",
+        Member::CapturesSkew => "captures.skew",
         Member::Vars => "vars",
         Member::VarsName => "vars.name",
         Member::VarsTake => "vars.take",
