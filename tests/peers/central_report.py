@@ -1,11 +1,13 @@
 """central_report.py JOB: prints the report of a job, made anew from tshark's fields.
 
 The file names in the job are relative to the current folder, as for `dshark central`. It knows the innermost or
-outermost IPv4 identification, TTL, source and destination as variables, no filter, and the queries all, loop and
-drop. It is written as plainly as it can be: every group is looked for in the list of all accepted records.
+outermost IPv4 identification, TTL, source and destination as variables, filters whose value is defined, the offset and
+the skew of a capture, and the queries all, loop and drop. It is written as plainly as it can be: every group is looked
+for in the list of all accepted records.
 """
 
 import json
+import re
 import subprocess
 import sys
 from collections import namedtuple
@@ -58,11 +60,20 @@ def read(file, variables):
     return rows, is_cut
 
 
-def sorted_out(rows, capture, skew):
-    """The accepted copies of a capture, and how many records are unmatched and late."""
+def filter_of(job):
+    """The filter as a function of a record's time, capture and values: the expression in the words of Python."""
+    words = re.sub(r"\d+\.\d+\.\d+\.\d+", lambda address: str(number(address.group())), job.get("filter", "1"))
+    code = compile(words.replace("&&", " and ").replace("||", " or "), "filter", "eval")
+    names = [variable["name"] for variable in job["vars"]]
+    return lambda time, capture, values: eval(code, {"time": time, "capture": capture, **dict(zip(names, values))}) != 0
+
+
+def sorted_out(rows, capture, offset, skew, keeps):
+    """The accepted copies of a capture, by its clock set right, and how many records are unmatched and late."""
     accepted, unmatched, late, newest = [], 0, 0, 0
     for record, (time, values) in enumerate(rows):
-        if values is None:
+        time = max(0, time + offset)
+        if values is None or not keeps(time, capture, values):
             unmatched += 1
         elif time + skew < newest:
             late += 1
@@ -117,11 +128,12 @@ def report(job):
     captures = [capture["name"] for capture in job["captures"]]
     variables = [variable["name"] for variable in job["vars"]]
     key = [variables.index(name) for name in job["key"]]
-    assert job.get("filter", "1") == "1"
+    keeps = filter_of(job)
     copies, capture_lines = [], []
     for capture, declared in enumerate(job["captures"]):
         rows, is_cut = read(declared["file"], job["vars"])
-        accepted, unmatched, late = sorted_out(rows, capture, job["skew"])
+        skew = declared.get("skew", job["skew"])
+        accepted, unmatched, late = sorted_out(rows, capture, declared.get("offset", 0), skew, keeps)
         copies += accepted
         capture_lines.append(f"C {captures[capture]} records={len(rows)} unmatched={unmatched} late={late}"
                              f" accepted={len(accepted)} {'cut' if is_cut else 'whole'}")

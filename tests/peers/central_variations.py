@@ -17,10 +17,11 @@ VARIABLES = [{"name": "id", "take": ["ipv4[-1].id"]}, {"name": "ttl", "take": ["
 LOOP = {"kind": "loop", "hop": "ttl"}
 
 
-def job(captures, query=LOOP, window=1_000_000, skew=0, profile=True, key=("id",)):
-    declared = [{"name": name, "file": name + ".pcap"} for name in captures]
+def job(captures, query=LOOP, window=1_000_000, skew=0, profile=True, key=("id",), clocks=None):
+    """A job; with `clocks`, which has the offset and the skew of some captures, it is one of version 2."""
+    declared = [{"name": name, "file": name + ".pcap", **(clocks or {}).get(name, {})} for name in captures]
     rest = {"key": list(key), "window": window, "skew": skew, "profile": profile, "query": query}
-    return {"version": 1, "captures": declared, "vars": VARIABLES, **rest}
+    return {"version": 1 if clocks is None else 2, "captures": declared, "vars": VARIABLES, **rest}
 
 
 def files(records, **form):
@@ -127,6 +128,46 @@ def hours():
     return job(records, window=3_600 * SECOND), files(records)
 
 
+def clocks_by(offset):
+    """Two copies, the second a whole window later, by a clock with this offset."""
+    records = {"s1": [copy(0, 7)], "s2": [copy(1_000_000, 7, 63)], "s3": []}
+    return job(records, clocks={"s2": {"offset": offset}}), files(records)
+
+
+def clock_before_all_times():
+    """Times that an offset would take below 0, and those right after; what is late is so by the times that remain."""
+    records = [(time, wrapped("bare", datagram(7 + time % 3, 64, b"copy"), 40_000))
+               for time in (SECOND, 3_600 * SECOND, 3_600 * SECOND + 5, 2 * SECOND, 3_600 * SECOND + 2, 3_600 * SECOND + 5)]
+    captures = {"s1": records, "s2": records[:4]}
+    clocks = {"s1": {"offset": -3_600 * SECOND, "skew": 3}, "s2": {"offset": 1 - 3_600 * SECOND}}
+    return job(captures, clocks=clocks, skew=6), files(captures)
+
+
+def own_skews():
+    """Each capture with the same records out of order, under skews of its own and under that of the job."""
+    records = [copy(1_000, 1), copy(0, 2), copy(999, 3), copy(1, 4), copy(500, 5), copy(499, 6)]
+    captures = {name: records for name in ("none", "least", "some", "more", "most")}
+    skews = {"none": 0, "least": 1, "some": 999, "most": 3_600 * SECOND}
+    clocks = {name: {"skew": skew} for name, skew in skews.items()}
+    return job(captures, clocks={**clocks, "least": {"skew": 1, "offset": 77}}, skew=500), files(captures)
+
+
+def filter_by_time():
+    """A filter on the time, which is the one by the clock that is set right."""
+    declared, made = all_of_network({"kind": "all"})
+    clocks = {"s1": -100_000, "s3": 3 * SECOND, "s4": 100_000}
+    captures = [{**capture, "offset": clocks.get(capture["name"], 0)} for capture in declared["captures"]]
+    words = f"time >= {START + 100_000} && capture != 2 || time > {START + 3 * SECOND + 400_000}"
+    return {**declared, "version": 2, "captures": captures, "filter": words}, made
+
+
+def traffic_by_clocks(seed, query, **asked):
+    """Random traffic whose captures have clocks and skews of their own."""
+    draw = random.Random(seed)
+    clocks = {f"point_{k}": {"offset": draw.randrange(-40_000, 40_000), "skew": draw.randrange(3_000)} for k in range(3)}
+    return traffic(seed, query, clocks=clocks, **asked)
+
+
 VARIATIONS = {
     "cut": cut(),
     "equal-times": equal_times(),
@@ -144,6 +185,14 @@ VARIATIONS = {
     "loops-of-traffic": traffic(1, LOOP, window=20_000, skew=2_000),
     "drops-of-traffic": traffic(2, {"kind": "drop", "exits": ["point_2"]}, window=9_000, skew=100),
     "no-skew-in-traffic": traffic(3, LOOP, window=100_000),
+    "clock-right": clocks_by(0),
+    "clock-ahead": clocks_by(-1),
+    "clock-behind": clocks_by(1),
+    "clock-before-all-times": clock_before_all_times(),
+    "own-skews": own_skews(),
+    "filter-by-time": filter_by_time(),
+    "clocks-in-traffic": traffic_by_clocks(5, LOOP, window=20_000, skew=500),
+    "drops-by-clocks": traffic_by_clocks(6, {"kind": "drop", "exits": ["point_1"]}, window=30_000),
     "two-keys-in-traffic": traffic(4, {"kind": "all"}, window=3_600_000, skew=60_000, key=("ttl", "id")),
 }
 
