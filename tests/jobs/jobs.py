@@ -23,6 +23,8 @@ def wide(value):
 def canonical(job):
     """The job with all that was left out, compact, its members in byte order."""
     job = {"vxlan_port": 4789, "filter": "1", "profile": False, **job}
+    if job["version"] > 1:
+        job["captures"] = [{"offset": 0, "skew": job["skew"], **capture} for capture in job["captures"]]
     query = dict(job["query"])
     if "exits" in query:
         captures = [capture["name"] for capture in job["captures"]]
@@ -60,6 +62,8 @@ def main():
     for sample in sorted(glob.glob("samples/**/*.json", recursive=True)):
         with open(sample, encoding="utf-8") as file:
             accepted.append(file.read())
+    with open("tests/jobs/accepted.txt", encoding="utf-8") as file:
+        accepted += [line for line in file if not line.startswith("#")]
     for text in accepted:
         check(text, 0, canonical(json.loads(text)), "")
         check(canonical(json.loads(text)), 0, canonical(json.loads(text)), "")

@@ -1,6 +1,7 @@
 #!/usr/bin/env bash
-# Holds docs/job.schema.json to the jobs: python3-jsonschema accepts each example of docs/JOBS.md and each job under
-# samples/, and says of each job of tests/jobs/refused.txt what that file says of the schema.
+# Holds docs/job.schema.json to the jobs: python3-jsonschema accepts each example of docs/JOBS.md, each job under
+# samples/ and each one of tests/jobs/accepted.txt, and says of each job of tests/jobs/refused.txt what that file says
+# of the schema.
 #
 # It ends with 1 on a difference. It skips with a line, and ends with 0, where python3-jsonschema is missing.
 export LC_ALL=C
@@ -36,6 +37,10 @@ with open("docs/JOBS.md", encoding="utf-8") as file:
 for sample in sorted(glob.glob("samples/**/*.json", recursive=True)):
     with open(sample, encoding="utf-8") as file:
         says(file.read(), True)
+with open("tests/jobs/accepted.txt", encoding="utf-8") as file:
+    for line in file:
+        if not line.startswith("#"):
+            says(line, True)
 with open("tests/jobs/refused.txt", encoding="utf-8") as file:
     for line in file:
         if not line.startswith("#"):

@@ -73,6 +73,14 @@ ends 'a member that does not belong to the kind of query' 1 'job:14:5: query[0]:
 ends 'a pattern' 1 'job:13:22: query.allow[1]: unknown: there is no such name; query.allow is a list of 1 to 16 texts, each of 1 to 32 words: captures, ? and *
       "allow": ["a b", "a c"],
                        ^' --fault 'dshark: job: query.allow[1]: unknown' "$job"
+sed 's/"b.pcap"/"b.pcap", "skew": 1, "offset": -3600000000001/' "$job" >"$room/clock"
+ends 'a member of a later version' 1 'clock:5:37: captures[1]: stray: this member does not belong here; captures is a list of 1 to 64 objects with the members name and file, and of version 2 offset and skew
+      {"name": "b", "file": "b.pcap", "skew": 1, "offset": -3600000000001}
+                                      ^' --fault 'dshark: job: captures[1]: stray' "$room/clock"
+sed -i 's/"version": 1/"version": 2/' "$room/clock"
+ends 'an offset out of its limits' 1 'clock:5:58: captures.offset[1]: limit 3600000000001: 3600000000001 is out of its limits; captures.offset is a number of nanoseconds from -3600000000000 to 3600000000000
+      {"name": "b", "file": "b.pcap", "skew": 1, "offset": -3600000000001}
+                                                           ^' --fault 'dshark: job: captures.offset[1]: limit 3600000000001' "$room/clock"
 sed '/"hop"/d; s/"a c"\],/"a c"]/' "$job" >"$room/other"
 ends 'another job' 1 'explain: other: the job has no query.hop: is it the job that was refused?' \
     --fault 'dshark: job: query.hop[0]: unknown' "$room/other"
