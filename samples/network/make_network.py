@@ -1,6 +1,6 @@
 #!/usr/bin/env python3
-"""make_network.py [FOLDER]: writes the captures of a small network, s1.pcap to s4.pcap, beside this script or into
-FOLDER.
+"""make_network.py [FOLDER]: writes the captures of a small network, s1.pcap to s4.pcap and s2-ahead.pcap, beside this
+script or into FOLDER.
 
     h1 (s1) ---- leaf (s2) ---- spine (s3) ---- h2 (s4)
                     |                              |
@@ -10,6 +10,9 @@ Host h1 is 10.0.0.1 and h2 is 10.0.0.2. Each capture point records a packet once
 the hosts, in VXLAN at the leaf, in GRE with a key at the spine. At the other spine nothing is captured. Every hop
 takes one off the TTL of the packet itself. All is made by rule, so it can be made again; the files differ in byte
 order and in the unit of their times, as captures of different machines do.
+
+s2-ahead.pcap is what another machine captured at the leaf: the same packets, by a clock that is set wrong, and partly
+out of order.
 """
 
 import os
@@ -40,6 +43,11 @@ PACKETS = [
     (2001, 900_000, b"answer", [("s4", 0), ("s3", 60_400), ("s2", 64_600), ("s1", 45_000)]),
 ]
 QUESTIONS = [("s1", 50_000), ("s4", 700_000)]  # where and when a host asks for the address of the other
+
+# The other machine at the leaf: how far its clock is ahead, and the order in which it writes what was captured there. It
+# has two queues, and empties them in turn.
+AHEAD = 1_500_000
+WRITTEN = [0, 2, 3, 4, 6, 1, 5, 7]
 
 HOSTS = {1: (bytes.fromhex("020000000001"), bytes([10, 0, 0, 1])),
          2: (bytes.fromhex("020000000002"), bytes([10, 0, 0, 2]))}
@@ -130,12 +138,23 @@ def pcap(records, order="<", nanoseconds=True, link=1):
     return b"".join(parts)
 
 
+def captured_ahead():
+    """What the other machine at the leaf writes."""
+    records = captured()["s2"]
+    return [(records[k][0] + AHEAD, records[k][1]) for k in WRITTEN]
+
+
+def files():
+    """The bytes of each file by its name."""
+    made = {point + ".pcap": pcap(records, *POINTS[point][1:]) for point, records in captured().items()}
+    return {**made, "s2-ahead.pcap": pcap(captured_ahead())}
+
+
 def main():
     folder = sys.argv[1] if len(sys.argv) > 1 else os.path.dirname(os.path.abspath(__file__))
-    for point, records in captured().items():
-        _, order, nanoseconds = POINTS[point]
-        with open(os.path.join(folder, point + ".pcap"), "wb") as file:
-            file.write(pcap(records, order, nanoseconds))
+    for name, octets in files().items():
+        with open(os.path.join(folder, name), "wb") as file:
+            file.write(octets)
 
 
 if __name__ == "__main__":

@@ -1,7 +1,8 @@
 #!/usr/bin/env bash
-# Compares `dshark central` with reports that are made anew from tshark's fields: of the sample network with both of
-# its jobs, and of the jobs that central_variations.py makes (files that are cut, equal times, both byte orders and
-# units, late records, ends of windows, random traffic). The stored reports of the sample network are the same text.
+# Compares `dshark central` with reports that are made anew from tshark's fields: of the sample network with all of its
+# jobs, and of the jobs that central_variations.py makes (files that are cut, equal times, both byte orders and units,
+# late records, ends of windows, clocks with offsets, skews of captures, random traffic). The stored reports of the
+# sample network are the same text.
 #
 # The program is $DSHARK where that is set, and else the one that the gate or `make demo` built; nothing is built
 # here. It ends with 1 on a difference. It skips with a line, and ends with 0, where a tool or the program is missing.
@@ -41,7 +42,7 @@ for capture in samples/network/*.pcap; do
     same "$capture" "$room/network/${capture##*/}" "$capture"
     counted $?
 done
-for job in job drop; do
+for job in job drop clock clock-delays clock-set; do
     agrees samples/network "$job.json"
     counted $?
     same "samples/network/$job.report" "$room/expected" "samples/network/$job.report"
