@@ -1,4 +1,4 @@
-"""Compares the commands that README.md shows with what they print. Word: the program, if there is one.
+"""Compares the commands that README.md and docs/JOBS.md show with what they print. Word: the program, if there is one.
 
 A command stands in backquotes in the paragraph above a block that is set in, or in the block after '$ '. The lines of
 the block stand in what it prints, in that order; '..' stands for lines that are left out. Without the program the
@@ -27,10 +27,10 @@ def printed(program, command):
     return None
 
 
-def shown():
-    """Each command with the lines that the README shows of it."""
+def shown(document):
+    """Each command with the lines that a document shows of it."""
     above, block = "", []
-    with open("README.md", encoding="utf-8") as file:
+    with open(document, encoding="utf-8") as file:
         lines = file.read().splitlines() + [""]
     for line in lines:
         if line.startswith("    "):
@@ -51,7 +51,7 @@ def shown():
 def main():
     program = sys.argv[1] if len(sys.argv) > 1 else None
     passed, failed, skipped = 0, 0, 0
-    for command, lines in shown():
+    for command, lines in [*shown("README.md"), *shown("docs/JOBS.md")]:
         if not command.startswith("dshark ") or not lines:
             continue
         text = printed(program, command)
@@ -66,7 +66,7 @@ def main():
         else:
             passed += 1
     print(f"tests/documents/examples.sh: {passed} passed, {failed} failed" + (f" ({skipped} skipped)" if skipped else ""))
-    sys.exit(failed != 0 or passed < 4)
+    sys.exit(failed != 0 or passed < 7)
 
 
 main()

@@ -1,6 +1,6 @@
 #!/usr/bin/env bash
-# Runs the commands that README.md shows, and compares what they print with what it shows. Where the program is not
-# built, the stored reports stand for it. examples.py says how.
+# Runs the commands that README.md and docs/JOBS.md show, and compares what they print with what is shown. Where the
+# program is not built, the stored reports stand for it. examples.py says how.
 #
 # It ends with 1 on a difference, and skips with a line, and ends with 0, where python3 is missing.
 export LC_ALL=C.UTF-8 PYTHONDONTWRITEBYTECODE=1
