@@ -74,7 +74,7 @@ ends 'a pattern' 1 'job:13:22: query.allow[1]: unknown: there is no such name; q
       "allow": ["a b", "a c"],
                        ^' --fault 'dshark: job: query.allow[1]: unknown' "$job"
 sed 's/"b.pcap"/"b.pcap", "skew": 1, "offset": -3600000000001/' "$job" >"$room/clock"
-ends 'a member of a later version' 1 'clock:5:37: captures[1]: stray: this member does not belong here; captures is a list of 1 to 64 objects with the members name and file, and of version 2 offset and skew
+ends 'a member of a later version' 1 'clock:5:37: captures[1]: stray: this member does not belong here; captures is a list of 1 to 64 objects with the members name and file; also offset and skew from version 2 on, and interface from version 3 on
       {"name": "b", "file": "b.pcap", "skew": 1, "offset": -3600000000001}
                                       ^' --fault 'dshark: job: captures[1]: stray' "$room/clock"
 sed -i 's/"version": 1/"version": 2/' "$room/clock"
