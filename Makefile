@@ -8,7 +8,7 @@ PREFIX ?= /usr/local
 SAMPLE = samples/one-link.pcap
 NETWORK = samples/network
 PROGRAM = crates/dshark_cli/out/dshark_cli
-TRIED = job.json s1.pcap s2.pcap s3.pcap s4.pcap
+TRIED = job.json s1.pcap s2.pcap s3.pcapng s4.pcap
 
 # Below PREFIX: the program and its manual page have names of their own, and each other file keeps its name in a folder
 # of dshark.

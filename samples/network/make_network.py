@@ -1,6 +1,6 @@
 #!/usr/bin/env python3
-"""make_network.py [FOLDER]: writes the captures of a small network, s1.pcap to s4.pcap and s2-ahead.pcap, beside this
-script or into FOLDER.
+"""make_network.py [FOLDER]: writes the captures of a small network, s1.pcap, s2.pcap, s2-ahead.pcap, s3.pcapng and
+s4.pcap, beside this script or into FOLDER.
 
     h1 (s1) ---- leaf (s2) ---- spine (s3) ---- h2 (s4)
                     |                              |
@@ -9,7 +9,8 @@ script or into FOLDER.
 Host h1 is 10.0.0.1 and h2 is 10.0.0.2. Each capture point records a packet once for each time that it passes: bare at
 the hosts, in VXLAN at the leaf, in GRE with a key at the spine. At the other spine nothing is captured. Every hop
 takes one off the TTL of the packet itself. All is made by rule, so it can be made again; the files differ in byte
-order and in the unit of their times, as captures of different machines do.
+order and in the unit of their times, as captures of different machines do. That of the spine is pcapng, and has two
+interfaces: on the first it captures what it sends on to h2, on the second what h2 sends back.
 
 s2-ahead.pcap is what another machine captured at the leaf: the same packets, by a clock that is set wrong, and partly
 out of order.
@@ -138,6 +139,44 @@ def pcap(records, order="<", nanoseconds=True, link=1):
     return b"".join(parts)
 
 
+def pcapng(interfaces, packets, order="<"):
+    """The bytes of a capture file, one section of pcapng 1.0. An interface has a link type, a resolution (as its option
+    has it) and an offset in seconds; a packet has the number of its interface, its time and its frame."""
+    def padded(octets):
+        return octets + bytes(-len(octets) % 4)
+
+    def block(kind, body):
+        length = struct.pack(order + "I", 12 + len(body))
+        return struct.pack(order + "I", kind) + length + body + length
+
+    def option(code, value):
+        return struct.pack(order + "HH", code, len(value)) + padded(value)
+
+    def units(time, resolution, offset):
+        a_second = 10**resolution if resolution < 128 else 2**(resolution - 128)
+        return (time - offset * SECOND) * a_second // SECOND
+
+    end = option(0, b"")
+    parts = [block(0x0A0D0D0A, struct.pack(order + "IHHq", 0x1A2B3C4D, 1, 0, -1) + option(4, b"make_network.py") + end)]
+    for number, (link, resolution, offset) in enumerate(interfaces):
+        options = option(2, b"port %d" % number) + option(9, bytes([resolution])) + option(14, struct.pack(order + "q", offset))
+        parts.append(block(1, struct.pack(order + "HHI", link, 0, 262_144) + options + end))
+    for interface, time, frame in packets:
+        high, low = divmod(units(time, *interfaces[interface][1:]), 2**32)
+        head = struct.pack(order + "IIIII", interface, high, low, len(frame), len(frame))
+        parts.append(block(6, head + padded(frame)))
+    for number, interface in enumerate(interfaces):  # statistics: how many packets each interface has received
+        high, low = divmod(units(START + SECOND, *interface[1:]), 2**32)
+        received = struct.pack(order + "Q", sum(of == number for of, _, _ in packets))
+        parts.append(block(5, struct.pack(order + "III", number, high, low) + option(4, received) + end))
+    return b"".join(parts)
+
+
+def captured_at_spine():
+    """What the spine writes: its packets, each with its interface."""
+    return [(int(frame[26:34] == END + SPINE), time, frame) for time, frame in captured()["s3"]]
+
+
 def captured_ahead():
     """What the other machine at the leaf writes."""
     records = captured()["s2"]
@@ -146,8 +185,9 @@ def captured_ahead():
 
 def files():
     """The bytes of each file by its name."""
-    made = {point + ".pcap": pcap(records, *POINTS[point][1:]) for point, records in captured().items()}
-    return {**made, "s2-ahead.pcap": pcap(captured_ahead())}
+    made = {point + ".pcap": pcap(records, *POINTS[point][1:]) for point, records in captured().items() if point != "s3"}
+    spine = pcapng([(1, 9, 0), (1, 9, START // SECOND)], captured_at_spine(), POINTS["s3"][1])
+    return {**made, "s2-ahead.pcap": pcap(captured_ahead()), "s3.pcapng": spine}
 
 
 def main():

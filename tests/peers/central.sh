@@ -1,8 +1,8 @@
 #!/usr/bin/env bash
 # Compares `dshark central` with reports that are made anew from tshark's fields: of the sample network with all of its
 # jobs, and of the jobs that central_variations.py makes (files that are cut, equal times, both byte orders and units,
-# late records, ends of windows, clocks with offsets, skews of captures, random traffic). The stored reports of the
-# sample network are the same text.
+# late records, ends of windows, clocks with offsets, skews of captures, interfaces, random traffic). The stored reports
+# of the sample network are the same text.
 #
 # The program is $DSHARK where that is set, and else the one that the gate or `make demo` built; nothing is built
 # here. It ends with 1 on a difference. It skips with a line, and ends with 0, where a tool or the program is missing.
@@ -38,11 +38,11 @@ agrees() { # FOLDER JOB
 # The sample network: its captures are those that its script makes, and its reports those of the peer.
 mkdir "$room/network" "$room/variations"
 python3 samples/network/make_network.py "$room/network"
-for capture in samples/network/*.pcap; do
+for capture in samples/network/*.pcap*; do
     same "$capture" "$room/network/${capture##*/}" "$capture"
     counted $?
 done
-for job in job drop clock clock-delays clock-set; do
+for job in job drop clock clock-delays clock-set interfaces; do
     agrees samples/network "$job.json"
     counted $?
     same "samples/network/$job.report" "$room/expected" "samples/network/$job.report"

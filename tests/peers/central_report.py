@@ -1,9 +1,9 @@
 """central_report.py JOB: prints the report of a job, made anew from tshark's fields.
 
 The file names in the job are relative to the current folder, as for `dshark central`. It knows the innermost or
-outermost IPv4 identification, TTL, source and destination as variables, filters whose value is defined, the offset and
-the skew of a capture, and the queries all, loop and drop. It is written as plainly as it can be: every group is looked
-for in the list of all accepted records.
+outermost IPv4 identification, TTL, source and destination as variables, filters whose value is defined, the offset, the
+skew and the interface of a capture, and the queries all, loop and drop. It is written as plainly as it can be: every
+group is looked for in the list of all accepted records.
 """
 
 import json
@@ -14,12 +14,13 @@ from collections import namedtuple
 
 FIELDS = {"id": "ip.id", "ttl": "ip.ttl", "src": "ip.src", "dst": "ip.dst"}
 INNERMOST, OUTERMOST = "l", "f"
+ETHERNET, RAW_IP = "1", "7"
 
 # A copy of a packet; copies are ordered by time, capture number and record number.
 Copy = namedtuple("Copy", "time capture record values")
 
 
-def number(text):
+def number_of(text):
     """The number that tshark prints: decimal, hexadecimal, or an address."""
     if "." in text:
         total = 0
@@ -41,12 +42,13 @@ def field_of(variable):
     return FIELDS[name], {"-1": INNERMOST, "0": OUTERMOST}[place]
 
 
-def read(file, variables):
-    """Time and values of each record, where all values are there, else None; and whether the file is cut."""
+def read(file, interface, variables):
+    """Time and values of each record of the interface, or of all where it is None: the values where all are there, else
+    None; and whether the file is cut."""
     fields = [field_of(variable) for variable in variables]
     (occurrence,) = {which for _, which in fields}
     words = ["tshark", "-r", file, "-T", "fields", "-E", "occurrence=" + occurrence]
-    for field in ["frame.number", "frame.time_epoch"] + [field for field, _ in fields]:
+    for field in ["frame.interface_id", "frame.encap_type", "frame.time_epoch"] + [field for field, _ in fields]:
         words += ["-e", field]
     ran = subprocess.run(words, capture_output=True, text=True, check=False)
     is_cut = "cut short in the middle of a packet" in ran.stderr
@@ -54,15 +56,16 @@ def read(file, variables):
         sys.exit(f"central_report.py: tshark: {ran.stderr}")
     rows = []
     for line in ran.stdout.splitlines():
-        frame, time, *values = line.split("\t")
-        assert int(frame) == len(rows) + 1
-        rows.append((nanoseconds(time), [number(value) for value in values] if all(values) else None))
+        number, link, time, *values = line.split("\t")
+        if interface is None or int(number or 0) == interface:
+            is_there = all(values) and link in (ETHERNET, RAW_IP)
+            rows.append((nanoseconds(time), [number_of(value) for value in values] if is_there else None))
     return rows, is_cut
 
 
 def filter_of(job):
     """The filter as a function of a record's time, capture and values: the expression in the words of Python."""
-    words = re.sub(r"\d+\.\d+\.\d+\.\d+", lambda address: str(number(address.group())), job.get("filter", "1"))
+    words = re.sub(r"\d+\.\d+\.\d+\.\d+", lambda address: str(number_of(address.group())), job.get("filter", "1"))
     code = compile(words.replace("&&", " and ").replace("||", " or "), "filter", "eval")
     names = [variable["name"] for variable in job["vars"]]
     return lambda time, capture, values: eval(code, {"time": time, "capture": capture, **dict(zip(names, values))}) != 0
@@ -131,7 +134,7 @@ def report(job):
     keeps = filter_of(job)
     copies, capture_lines = [], []
     for capture, declared in enumerate(job["captures"]):
-        rows, is_cut = read(declared["file"], job["vars"])
+        rows, is_cut = read(declared["file"], declared.get("interface"), job["vars"])
         skew = declared.get("skew", job["skew"])
         accepted, unmatched, late = sorted_out(rows, capture, declared.get("offset", 0), skew, keeps)
         copies += accepted

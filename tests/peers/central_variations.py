@@ -10,7 +10,7 @@ import sys
 
 sys.path.insert(0, os.path.join(os.path.dirname(os.path.abspath(__file__)), "../../samples/network"))
 sys.dont_write_bytecode = True
-from make_network import START, SECOND, captured, datagram, ethernet, ipv4, pcap, question, udp, wrapped
+from make_network import START, SECOND, captured, datagram, ethernet, ipv4, pcap, pcapng, question, udp, wrapped
 
 WRAPPINGS = ("bare", "vxlan", "gre")
 VARIABLES = [{"name": "id", "take": ["ipv4[-1].id"]}, {"name": "ttl", "take": ["ipv4[-1].ttl"]}]
@@ -18,7 +18,7 @@ LOOP = {"kind": "loop", "hop": "ttl"}
 
 
 def job(captures, query=LOOP, window=1_000_000, skew=0, profile=True, key=("id",), clocks=None):
-    """A job; with `clocks`, which has the offset and the skew of some captures, it is one of version 2."""
+    """A job; with `clocks`, which has further members of some captures, it is one of version 2."""
     declared = [{"name": name, "file": name + ".pcap", **(clocks or {}).get(name, {})} for name in captures]
     rest = {"key": list(key), "window": window, "skew": skew, "profile": profile, "query": query}
     return {"version": 1 if clocks is None else 2, "captures": declared, "vars": VARIABLES, **rest}
@@ -168,6 +168,46 @@ def traffic_by_clocks(seed, query, **asked):
     return traffic(seed, query, clocks=clocks, **asked)
 
 
+def interfaces(job_of_two, sections):
+    """A job of version 3 on one file with these sections: its interfaces 0 and 1, one that it has not, and all of it."""
+    parts = {"first": 0, "second": 1, "third": 2, "all": None}
+    members = {name: {"file": "all.pcapng", **({} if number is None else {"interface": number})} for name, number in parts.items()}
+    return {**job(parts, clocks=members, **job_of_two), "version": 3}, {"all.pcapng": b"".join(sections)}
+
+
+def two_of_each():
+    """Copies on two interfaces in turn, of which the second is a little behind."""
+    return [(k % 2, START + 1_000 * k, wrapped(WRAPPINGS[k % 3], datagram(k // 4, 64 - k % 4, b"copy"), k)) for k in range(40)]
+
+
+def units(*resolutions):
+    """Two interfaces with these resolutions, whose times begin at the start of the traffic."""
+    offset = START // SECOND
+    return interfaces({}, [pcapng([(1, resolution, offset) for resolution in resolutions], two_of_each())])
+
+
+def sections():
+    """Sections of both orders, in which the numbers of interfaces begin anew, on Ethernet, raw IP and another link."""
+    raw = [(number, time, frame[14:]) for number, time, frame in two_of_each()]
+    later = [(number, time + 250, frame) for number, time, frame in two_of_each()]
+    return interfaces({"skew": 60_000}, [
+        pcapng([(1, 9, 0), (1, 9, 0)], two_of_each()), pcapng([(101, 9, 0), (0, 9, 0)], raw, ">"),
+        pcapng([(1, 9, -5)], []), pcapng([(1, 6, -5), (1, 9, 5)], later, "<")])
+
+
+def cut_pcapng():
+    """A file that ends inside the padding of its last packet, before the statistics of both interfaces."""
+    whole = pcapng([(1, 9, 0), (1, 9, 0)], two_of_each())
+    return interfaces({}, [whole[:-2 * 40 - 5]])
+
+
+def interfaces_of_libpcap():
+    """A libpcap file has the interface 0 and no other."""
+    records = {"none": [copy(0, 7)], "zero": [copy(1, 7)], "one": [copy(2, 7)]}
+    members = {"zero": {"interface": 0}, "one": {"interface": 1, "offset": 7}}
+    return {**job(records, clocks=members), "version": 3}, files(records)
+
+
 VARIATIONS = {
     "cut": cut(),
     "equal-times": equal_times(),
@@ -193,6 +233,13 @@ VARIATIONS = {
     "filter-by-time": filter_by_time(),
     "clocks-in-traffic": traffic_by_clocks(5, LOOP, window=20_000, skew=500),
     "drops-by-clocks": traffic_by_clocks(6, {"kind": "drop", "exits": ["point_1"]}, window=30_000),
+    "interfaces": units(9, 9),
+    "interfaces-in-microseconds": units(6, 9),
+    "interfaces-in-milliseconds": units(3, 0),
+    "interfaces-of-binary-units": units(128 + 30, 128 + 20),
+    "sections": sections(),
+    "cut-pcapng": cut_pcapng(),
+    "interfaces-of-libpcap": interfaces_of_libpcap(),
     "two-keys-in-traffic": traffic(4, {"kind": "all"}, window=3_600_000, skew=60_000, key=("ttl", "id")),
 }
 
@@ -204,7 +251,7 @@ def main():
         with open(os.path.join(folder, "job.json"), "w", encoding="utf-8") as file:
             json.dump(declared, file, indent=2)
         for capture, octets in captures.items():
-            with open(os.path.join(folder, capture + ".pcap"), "wb") as file:
+            with open(os.path.join(folder, capture if "." in capture else capture + ".pcap"), "wb") as file:
                 file.write(octets)
 
 
