@@ -2,7 +2,8 @@
 # Compares `dshark count ipv4[0].id` with tshark and capinfos, on the captures that other tools ship.
 #
 # The program is $DSHARK where that is set, and else the one that the gate or `make demo` built; nothing is built
-# here. Captures are all files named .pcap, .cap or .pcapng of the packages in PACKAGES that are installed.
+# here. Captures are all files named .pcap or .cap of the packages in PACKAGES that are installed; pcapng.sh has those
+# in pcapng.
 # - A libpcap file of link type Ethernet or raw IP: the status is 0, records= is capinfos' number of packets, and
 #   each identification is that of as many packets as tshark says. tshark reads more layers than dshark does (PPPoE,
 #   L2TP, ..), so of its packets those count whose first IPv4 header follows headers that dshark reads; both
@@ -58,9 +59,10 @@ while read -r capture; do
     status=$?
     case $kind,$link in
     pcap,ether | pcap,rawip | nsecpcap,ether | nsecpcap,rawip) sound "$capture" "$packets" ;;
+    pcapng,*) continue ;;
     *) malformed ;;
     esac && passed=$((passed + 1)) || failed=$((failed + 1))
-done < <(dpkg -L $PACKAGES 2>/dev/null | grep -E '\.(pcap|cap|pcapng)$' | sort)
+done < <(dpkg -L $PACKAGES 2>/dev/null | grep -E '\.(pcap|cap)$' | sort)
 
 [ $((passed + failed)) -ne 0 ] || echo "tests/peers/count.sh: skipped: none of $PACKAGES is installed"
 echo "$passed passed, $failed failed"

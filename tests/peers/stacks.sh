@@ -1,10 +1,10 @@
 #!/usr/bin/env bash
-# Compares `dshark stack` with tshark: the kinds of each packet's headers, and where each begins and ends.
+# Compares `dshark stack` with tshark: the time of each packet, the kinds of its headers, and where each begins and ends.
 #
 # The program is $DSHARK where that is set, and else the one that the gate or `make demo` built; nothing is built
 # here. The captures are those that this script makes (one packet for each rule of a header), and all libpcap files
 # on Ethernet or raw IP of the packages in PACKAGES that are installed.
-# Of tshark's layers those count that stand in front of the first that dshark does not know. By design:
+# stack_lines.py takes from tshark's layers those in front of the first that dshark does not know. By design:
 # - tshark's item of ICMP is the whole message, dshark's the first 8 bytes: its end is not compared, and what tshark
 #   reads inside an error message is payload.
 # - tshark takes VXLAN by either port and also where its bit 0x08 is not set, dshark by the destination port alone
@@ -96,34 +96,6 @@ write(sys.argv[1] + '/made-ethernet.pcap', '<', 0xA1B2C3D4, 1, on_ethernet)
 write(sys.argv[1] + '/made-raw-big-endian.pcap', '>', 0xA1B23C4D, 101, raw)
 PYTHON
 
-# Prints each packet's headers as tshark says them, in the form of `dshark stack`, without the time.
-cat >"$room/theirs.py" <<'PYTHON'
-import sys
-import xml.etree.ElementTree as tree
-
-KINDS = {'eth': 'eth', 'vlan': 'tag', 'ieee8021ad': 'tag', 'ip': 'ipv4', 'ipv6': 'ipv6', 'ipv6.hopopts': 'ext', 'ipv6.routing': 'ext',
-         'ipv6.dstopts': 'ext', 'ipv6.fraghdr': 'frag', 'tcp': 'tcp', 'udp': 'udp', 'icmp': 'icmp', 'icmpv6': 'icmp6', 'gre': 'gre', 'vxlan': 'vxlan'}
-number = 0
-for _, packet in tree.iterparse(sys.stdin.buffer):
-    if packet.tag != 'packet':
-        continue
-    line = [str(number)]
-    for layer in packet.iter('proto'):
-        name = layer.get('name')
-        # notes of tshark, which are no layers
-        if name in ('geninfo', 'frame', 'raw', '_ws.expert'):
-            continue
-        if name not in KINDS:
-            break
-        kind, start, size = KINDS[name], int(layer.get('pos')), int(layer.get('size'))
-        size = 40 if kind == 'ipv6' else 8 if kind in ('icmp', 'icmp6') else size
-        line.append(f'{kind}[{start}..{start + size}]')
-        if kind in ('icmp', 'icmp6'):
-            break
-    print(*line)
-    number += 1
-    packet.clear()
-PYTHON
 python3 "$room/make.py" "$room" || exit 2
 
 passed=0
@@ -133,9 +105,9 @@ while read -r capture; do
     [ -f "$capture" ] || continue
     IFS=, read -r _ kind link _ < <(capinfos -T -r -m -t -E -c -M "$capture" 2>/dev/null)
     case $kind,$link in pcap,ether | pcap,rawip | nsecpcap,ether | nsecpcap,rawip) ;; *) continue ;; esac
-    "$program" stack "$capture" 2>/dev/null | sed -e '$d' -e 's/^\([0-9]*\) [0-9]*/\1/' >"$room/ours"
+    "$program" stack "$capture" 2>/dev/null | sed -e '$d' >"$room/ours"
     tshark -r "$capture" -o ip.defragment:FALSE -o ipv6.defragment:FALSE -o tcp.desegment_tcp_streams:FALSE \
-        -T pdml 2>/dev/null | python3 "$room/theirs.py" >"$room/theirs"
+        -T pdml 2>/dev/null | python3 tests/peers/stack_lines.py >"$room/theirs"
     if diff "$room/ours" "$room/theirs" >"$room/differences"; then
         passed=$((passed + 1))
     else
@@ -143,7 +115,7 @@ while read -r capture; do
         echo "FAILED $capture: $(grep -c '^<' "$room/differences") of $(wc -l <"$room/ours") packets; dshark <, tshark >"
         head -8 "$room/differences"
     fi
-done < <(ls "$room"/made-*.pcap; dpkg -L $PACKAGES 2>/dev/null | grep -E '\.(pcap|cap|pcapng)$' | sort)
+done < <(ls "$room"/made-*.pcap; dpkg -L $PACKAGES 2>/dev/null | grep -E '\.(pcap|cap)$' | sort)
 
 echo "$passed passed, $failed failed"
 [ "$failed" -eq 0 ]
