@@ -20,22 +20,23 @@ row() { # NAME TOOL COMMAND..
 }
 
 # Times all rows: the least cpu seconds, elapsed seconds and greatest kilobytes of each, over so many records in so many
-# bytes; those of tshark over fewer records. The last lines of the first row's output say what was read.
+# bytes; those of tshark over fewer records. The last lines of the first row's output, which is run once more for them,
+# say what was read.
 table() { # RECORDS FEW_RECORDS BYTES LINES
-    local round i words out
+    local round i words
     : >"$room/rows"
+    read -ra words <<<"${commands[0]}"
+    "${words[@]}" 2>"$room/err" | tail -n "$4" >"$room/report"
     for ((round = 0; round < rounds; round++)); do
         for i in "${!names[@]}"; do
             read -ra words <<<"${commands[$i]}"
-            out=/dev/null
-            [ "$i" -ne 0 ] || out=$room/report
-            /usr/bin/time -o "$room/time" -f '%U %S %e %M' "${words[@]}" >"$out" 2>"$room/err" ||
+            /usr/bin/time -o "$room/time" -f '%U %S %e %M' "${words[@]}" >/dev/null 2>"$room/err" ||
                 { echo "bench/$name: ${names[$i]} fails: $(head -3 "$room/err")" >&2; exit 1; }
             echo "$i $(tail -1 "$room/time")" >>"$room/rows"
         done
     done
     echo "records=$1 bytes=$3 rounds=$rounds"
-    tail -n "$4" "$room/report"
+    cat "$room/report"
     sort -n "$room/rows" | awk -v records="$1" -v few="$2" -v bytes="$3" -v all="$(printf '%s\t' "${names[@]}")" '
         { cpu = $2 + $3
           if (!($1 in least) || cpu < least[$1]) { least[$1] = cpu; user[$1] = $2; system_[$1] = $3 }
