@@ -1,0 +1,4 @@
+pub mod Ends
+pub mod Standing
+pub mod Rounds
+pub mod Pipelines

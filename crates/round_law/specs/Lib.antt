@@ -1,0 +1,5 @@
+pub mod Links
+pub mod Waits
+pub mod Rows
+pub mod Network
+pub mod Measure

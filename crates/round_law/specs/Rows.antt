@@ -1,0 +1,91 @@
+-- What each turn of a node says, by its answer: the node as it was when the turn began, and as it is after it.
+use Rattle.std.specs.Prelude.{ℕ, ◌≡◌, ◌+◌, ◌*◌, ◌<◌, ◌≤◌, ◌⊎◌, length, All}
+use Rattle.std.specs.List.{sum_by}
+use Rattle.round_law.specs.Links.{Sender, Receiver, FinishIsLast, IsGranted, IsSender, IsReceiver}
+use Rattle.round_law.specs.Waits.{Node, in_at, out_at, IsIdle, IsDone}
+
+-- ---- what came and went
+
+-- the bytes put and the credits taken back
+abbrev pub sent_by : Sender → ℕ
+sent_by s = length s.put + s.back
+
+-- the bytes got, the credits paid and the frames taken
+abbrev pub taken_by : Receiver → ℕ
+taken_by r = length r.got + r.paid + length r.given
+
+-- all that a node has moved: bytes read, records taken up, and what came and went on its links
+abbrev pub moved : Node → ℕ
+moved node = node.read + node.records + sum_by sent_by node.outs + sum_by taken_by node.ins
+
+-- the records and frames that it has taken up
+abbrev pub taken_up : Node → ℕ
+taken_up node = node.records + sum_by (λ (r : Receiver). length r.given) node.ins
+
+-- ---- what is true after each turn that gives no fault
+
+-- every frame taken was granted, and nothing follows a Finish
+pub record IsOrderly (node : Node) : Type 0 where
+  pub granted : All IsGranted node.ins
+  pub taken : All (λ (r : Receiver). FinishIsLast r.given) node.ins
+  pub offered : All (λ (s : Sender). FinishIsLast s.offered) node.outs
+
+-- the frames that a node offers beside two for each record or frame that it has taken up
+unfoldable pub frames_beside : ℕ
+frames_beside = 4096
+
+abbrev pub OffersFew : Node → Type 0
+OffersFew node = All (λ (s : Sender). length s.offered ≤ 2 * taken_up node + frames_beside) node.outs
+
+-- what its links promise
+pub record HasSoundEnds (credits : ℕ) (node : Node) : Type 0 where
+  pub senders : All (IsSender credits) node.outs
+  pub receivers : All IsReceiver node.ins
+
+-- ---- a turn in which nothing moved
+
+pub record SenderStays (s t : Sender) : Type 0 where
+  pub put : t.put ≡ s.put
+  pub back : t.back ≡ s.back
+
+pub record ReceiverStays (r t : Receiver) : Type 0 where
+  pub got : t.got ≡ r.got
+  pub given : t.given ≡ r.given
+  pub paid : t.paid ≡ r.paid
+
+-- the bytes of each pipe, the frames taken, the bytes read and written are as before; frames may have been offered
+pub record StandsStill (before after : Node) : Type 0 where
+  pub read : after.read ≡ before.read
+  pub records : after.records ≡ before.records
+  pub wrote_all : after.wrote_all ≡ before.wrote_all
+  pub in_count : length after.ins ≡ length before.ins
+  pub out_count : length after.outs ≡ length before.outs
+  pub ins : (j : ℕ) → j < length before.ins → ReceiverStays (in_at before j) (in_at after j)
+  pub outs : (k : ℕ) → k < length before.outs → SenderStays (out_at before k) (out_at after k)
+
+-- ---- the three answers
+
+pub record MovedRow (before after : Node) : Type 0 where
+  pub rises : moved before < moved after
+  pub orderly : IsOrderly after
+  pub few : OffersFew after
+
+pub record IdleRow (credits : ℕ) (before after : Node) : Type 0 where
+  pub still : StandsStill before after
+  pub idle : IsIdle credits before after
+  pub orderly : IsOrderly after
+  pub few : OffersFew after
+
+pub record DoneRow (before after : Node) : Type 0 where
+  pub still : StandsStill before after
+  pub done : IsDone after
+  pub orderly : IsOrderly after
+  pub few : OffersFew after
+
+-- idle or done
+abbrev pub Rests : (credits : ℕ) (before after : Node) → Type 0
+Rests credits before after = IdleRow credits before after ⊎ DoneRow before after
+
+-- where a node stands still, the count of what it has moved does too
+abbrev pub StillCounts : (before after : Node) → Type 0
+StillCounts before after = StandsStill before after → moved after ≡ moved before

@@ -1,0 +1,8 @@
+//! Why a run over links with credits is never stuck, and why it ends, over plain numbers and lists: what a
+//! node waits on, what each of its turns says, and laws about networks of such nodes. `laws` has them,
+//! each a call that does nothing; nodes cite the definitions of specs/, and the pipeline the laws.
+#![tactic(auto)]
+
+mod laws;
+
+pub use laws::{done_is_settled, quiet_is_done, start_is_sound, still_is_done};
