@@ -2,7 +2,9 @@
 
 ghost use Rattle.std.specs.Prelude.{ℕ, Bool, IsTrue};
 ghost use Rattle.round_law.specs.Links.{DoneIsSettled, Receiver, Sender, StartsSound};
+ghost use Rattle.round_law.specs.Measure.{FramesFit, MovesLower, RunHasBound};
 ghost use Rattle.round_law.specs.Network.{Net, QuietIsDone, StillIsDone};
+ghost use Rattle.round_law.specs.Rows.{StillCounts};
 ghost use Rattle.round_law.specs.Waits.{Node};
 
 /// A law: a new link is sound, and joined where there is a credit.
@@ -25,4 +27,26 @@ pub fn still_is_done<N>()
 /// A law: the same of the pipeline, with any numbers of parsers, groupers and processors.
 pub fn quiet_is_done()
     ensures { (credits : ℕ) (before after : Net) → QuietIsDone credits before after }
+{}
+
+/// A law: a node that stands still has moved as much as before.
+pub fn still_counts()
+    ensures { (before after : Node) → StillCounts before after }
+{}
+
+/// A law: what a run has moved is at most what its captures and its shape allow, and so are the frames
+/// of each link.
+pub fn run_has_bound()
+    ensures { (captures credits : ℕ) (net : Net) → RunHasBound captures credits net }
+{}
+
+/// A law: where no node's count falls and one rises, what is ahead of the run falls.
+pub fn moves_lower()
+    ensures { (captures : ℕ) (before after : Net) → MovesLower captures before after }
+{}
+
+/// A law: within the limits of a job and a shape, the frames of a link are fewer than 2^58, so that no
+/// count of them comes near the end of a u64.
+pub fn frames_fit()
+    ensures { (captures parsers groupers : ℕ) → FramesFit captures parsers groupers }
 {}

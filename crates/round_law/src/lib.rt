@@ -5,4 +5,7 @@
 
 mod laws;
 
-pub use laws::{done_is_settled, quiet_is_done, start_is_sound, still_is_done};
+pub use laws::{
+    done_is_settled, frames_fit, moves_lower, quiet_is_done, run_has_bound, start_is_sound,
+    still_counts, still_is_done,
+};
