@@ -35,7 +35,7 @@ finish_ends (f ∷ fs) later last has = by_test (is_finish f) refl (finish_ends 
 
 -- ---- frames still to come
 
-no_frame_opens_nothing : OpensNoFrame []
+pub no_frame_opens_nothing : OpensNoFrame []
 no_frame_opens_nothing wire after opens =
     let long : 0 ≡ length (framed wire ++ after) = ap length opens.joined in
     let sum : length (framed wire ++ after) ≡ length (framed wire) + length after = length-append (framed wire) after in

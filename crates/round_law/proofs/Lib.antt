@@ -5,3 +5,4 @@ pub mod Pipelines
 pub mod Sums
 pub mod Bounds
 pub mod Counts
+pub mod Needed

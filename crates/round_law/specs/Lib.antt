@@ -3,3 +3,4 @@ pub mod Waits
 pub mod Rows
 pub mod Network
 pub mod Measure
+pub mod Needed

@@ -3,6 +3,7 @@
 ghost use Rattle.std.specs.Prelude.{ℕ, Bool, IsTrue};
 ghost use Rattle.round_law.specs.Links.{DoneIsSettled, Receiver, Sender, StartsSound};
 ghost use Rattle.round_law.specs.Measure.{FramesFit, MovesLower, RunHasBound};
+ghost use Rattle.round_law.specs.Needed.{Clause, EachClauseIsNeeded};
 ghost use Rattle.round_law.specs.Network.{Net, QuietIsDone, StillIsDone};
 ghost use Rattle.round_law.specs.Rows.{StillCounts};
 ghost use Rattle.round_law.specs.Waits.{Node};
@@ -49,4 +50,10 @@ pub fn moves_lower()
 /// count of them comes near the end of a u64.
 pub fn frames_fit()
     ensures { (captures parsers groupers : ℕ) → FramesFit captures parsers groupers }
+{}
+
+/// A law: no clause of the row of Idle can be dropped. For each there are two nodes, joined by a link and
+/// at rest by all other clauses, of which neither is done.
+pub fn each_clause_is_needed()
+    ensures { (clause : Clause) → EachClauseIsNeeded clause }
 {}
