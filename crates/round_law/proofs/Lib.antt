@@ -6,3 +6,4 @@ pub mod Sums
 pub mod Bounds
 pub mod Counts
 pub mod Needed
+pub mod Offers

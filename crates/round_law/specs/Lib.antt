@@ -4,3 +4,4 @@ pub mod Rows
 pub mod Network
 pub mod Measure
 pub mod Needed
+pub mod Offers

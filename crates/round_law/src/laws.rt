@@ -5,6 +5,7 @@ ghost use Rattle.round_law.specs.Links.{DoneIsSettled, Receiver, Sender, StartsS
 ghost use Rattle.round_law.specs.Measure.{FramesFit, MovesLower, RunHasBound};
 ghost use Rattle.round_law.specs.Needed.{Clause, EachClauseIsNeeded};
 ghost use Rattle.round_law.specs.Network.{Net, QuietIsDone, StillIsDone};
+ghost use Rattle.round_law.specs.Offers.{KindsAreFew};
 ghost use Rattle.round_law.specs.Rows.{StillCounts};
 ghost use Rattle.round_law.specs.Waits.{Node};
 
@@ -33,6 +34,13 @@ pub fn quiet_is_done()
 /// A law: a node that stands still has moved as much as before.
 pub fn still_counts()
     ensures { (before after : Node) → StillCounts before after }
+{}
+
+/// A law: where a parser offers at most one Item and one Mark for each record, a grouper one head of a
+/// group and one member for each Item and one GroupMark for each Mark or CaptureEnd, and a processor one
+/// answer for each head and one GroupMark for each GroupMark or Finish, a node offers few frames.
+pub fn kinds_are_few()
+    ensures { (node : Node) → KindsAreFew node }
 {}
 
 /// A law: what a run has moved is at most what its captures and its shape allow, and so are the frames

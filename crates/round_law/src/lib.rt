@@ -6,6 +6,6 @@
 mod laws;
 
 pub use laws::{
-    done_is_settled, each_clause_is_needed, frames_fit, moves_lower, quiet_is_done, run_has_bound,
-    start_is_sound, still_counts, still_is_done,
+    done_is_settled, each_clause_is_needed, frames_fit, kinds_are_few, moves_lower, quiet_is_done,
+    run_has_bound, start_is_sound, still_counts, still_is_done,
 };
