@@ -12,9 +12,9 @@ use Rattle.node_frames.proofs.Bytes.{length-bytes_of}
 use Rattle.round_law.specs.Links.{Sender, Receiver, new_sender, new_receiver, IsSender, IsReceiver, IsGranted, AreJoined}
 use Rattle.round_law.specs.Waits.{Node, in_at, out_at}
 use Rattle.round_law.specs.Rows.{sent_by, taken_by, moved, taken_up, frames_beside}
-use Rattle.round_law.specs.Network.{Net, Place, no_node, parser_at, grouper_at, processor_at, node_of, IsIn}
+use Rattle.round_law.specs.Network.{Net, Place, no_node, parser_at, grouper_at, processor_at, node_of, IsIn, IsSound}
 use Rattle.round_law.specs.Network.Place.{Parser, Grouper, Processor, Merge}
-use Rattle.round_law.specs.Measure.{capture_records, capture_bytes, piece_bytes, frame_bytes, parser_frames, grouper_frames, processor_frames, most_sent, most_taken, parser_most, grouper_most, processor_most, merge_most, most_moved, all_most, all_moved, IsLooked, HasBound, RunHasBound, FramesFit}
+use Rattle.round_law.specs.Measure.{capture_records, capture_bytes, piece_bytes, frame_bytes, parser_frames, grouper_frames, processor_frames, most_sent, most_taken, parser_most, grouper_most, processor_most, merge_most, most_moved, all_most, all_moved, IsLimited, HasBound, RunHasBound, FramesFit}
 use Rattle.round_law.proofs.Ends.{Later, later_frames, given_within}
 use Rattle.round_law.proofs.Sums.{sum_within, sum_of_none}
 
@@ -93,50 +93,50 @@ all_and_none records taken most within none = omega arith
 abbrev given_count : Receiver → ℕ
 given_count r = length r.given
 
-module _ (captures credits : ℕ) (net : Net) (looked : IsLooked captures credits net) where
+module _ (captures credits : ℕ) (net : Net) (now : IsSound credits net) (limited : IsLimited captures net) where
   sender : (place : Place) → IsIn net place → (k : ℕ) → k < length (node_of net place).outs → IsSender credits (out_at (node_of net place) k)
-  sender place there k less = (looked.sound place there).senders k new_sender less
+  sender place there k less = (now.sound place there).senders k new_sender less
 
   taken_at : (from : Place) (k : ℕ) (to : Place) (j frames : ℕ) → IsIn net from → IsIn net to → k < length (node_of net from).outs → j < length (node_of net to).ins
       → AreJoined credits (out_at (node_of net from) k) (in_at (node_of net to) j) → length (out_at (node_of net from) k).offered ≤ frames
       → Taken (in_at (node_of net to) j) frames
   taken_at from k to j frames hf ht out into joined few =
       taken_within credits (out_at (node_of net from) k) (in_at (node_of net to) j) frames (sender from hf k out)
-      ((looked.sound to ht).receivers j (new_receiver 0) into) ((looked.orderly to ht).granted j (new_receiver 0) into) joined few
+      ((now.sound to ht).receivers j (new_receiver 0) into) ((now.orderly to ht).granted j (new_receiver 0) into) joined few
 
   -- ---- what parsers offer
 
   parser_offers : (p k : ℕ) → p < length net.parsers → k < length (parser_at net p).outs → length (out_at (parser_at net p) k).offered ≤ parser_frames captures
   parser_offers p k there less =
       let node : Node = parser_at net p in
-      let few = looked.limited.few (Parser p) there k new_sender less in
-      let none : sum_by given_count node.ins ≡ 0 = sum_of_none given_count (new_receiver 0) node.ins (looked.shaped.parser_ins p there) in
+      let few = limited.few (Parser p) there k new_sender less in
+      let none : sum_by given_count node.ins ≡ 0 = sum_of_none given_count (new_receiver 0) node.ins (now.shaped.parser_ins p there) in
       let taken : taken_up node ≤ captures * capture_records =
-      all_and_none node.records (sum_by given_count node.ins) (captures * capture_records) (looked.limited.parsers p there).records none in
+      all_and_none node.records (sum_by given_count node.ins) (captures * capture_records) (limited.parsers p there).records none in
       offers_at_most (length (out_at node k).offered) (taken_up node) (captures * capture_records) frames_beside few taken
 
   parser_link : (p k : ℕ) → p < length net.parsers → k < length net.groupers + 1 → k < length (parser_at net p).outs
-  parser_link p k there less = let count = looked.shaped.parser_outs p there in omega arith
+  parser_link p k there less = let count = now.shaped.parser_outs p there in omega arith
 
   -- ---- what groupers take and offer
 
   grouper_takes : (g j : ℕ) → g < length net.groupers → j < length (grouper_at net g).ins → Taken (in_at (grouper_at net g) j) (parser_frames captures)
   grouper_takes g j there less =
-      let count = looked.shaped.grouper_ins g there in
+      let count = now.shaped.grouper_ins g there in
       let from : j < length net.parsers = omega arith in
       let out : g < length (parser_at net j).outs = parser_link j g from (omega arith) in
-      taken_at (Parser j) g (Grouper g) j (parser_frames captures) from there out less (looked.linked.to_grouper j g from there) (parser_offers j g from out)
+      taken_at (Parser j) g (Grouper g) j (parser_frames captures) from there out less (now.linked.to_grouper j g from there) (parser_offers j g from out)
 
   grouper_offers : (g q : ℕ) → g < length net.groupers → q < length (grouper_at net g).outs
       → length (out_at (grouper_at net g) q).offered ≤ grouper_frames captures (length net.parsers)
   grouper_offers g q there less =
       let node : Node = grouper_at net g in
-      let few = looked.limited.few (Grouper g) there q new_sender less in
+      let few = limited.few (Grouper g) there q new_sender less in
       let given : sum_by given_count node.ins ≤ length net.parsers * parser_frames captures =
-      sum_within given_count (new_receiver 0) (parser_frames captures) (length net.parsers) node.ins (looked.shaped.grouper_ins g there)
+      sum_within given_count (new_receiver 0) (parser_frames captures) (length net.parsers) node.ins (now.shaped.grouper_ins g there)
       (λ j within. (grouper_takes g j there within).given) in
       let taken : taken_up node ≤ length net.parsers * parser_frames captures =
-      none_and node.records (sum_by given_count node.ins) (length net.parsers * parser_frames captures) (looked.limited.groupers g there).records given in
+      none_and node.records (sum_by given_count node.ins) (length net.parsers * parser_frames captures) (limited.groupers g there).records given in
       offers_at_most (length (out_at node q).offered) (taken_up node) (length net.parsers * parser_frames captures) frames_beside few taken
 
   -- ---- what processors take and offer
@@ -144,23 +144,23 @@ module _ (captures credits : ℕ) (net : Net) (looked : IsLooked captures credit
   processor_takes : (q j : ℕ) → q < length net.processors → j < length (processor_at net q).ins
       → Taken (in_at (processor_at net q) j) (grouper_frames captures (length net.parsers))
   processor_takes q j there less =
-      let count = looked.shaped.processor_ins q there in
+      let count = now.shaped.processor_ins q there in
       let from : j < length net.groupers = omega arith in
-      let outs = looked.shaped.grouper_outs j from in
+      let outs = now.shaped.grouper_outs j from in
       let out : q < length (grouper_at net j).outs = omega arith in
       taken_at (Grouper j) q (Processor q) j (grouper_frames captures (length net.parsers)) from there out less
-      (looked.linked.to_processor j q from there) (grouper_offers j q from out)
+      (now.linked.to_processor j q from there) (grouper_offers j q from out)
 
   processor_offers : (q k : ℕ) → q < length net.processors → k < length (processor_at net q).outs
       → length (out_at (processor_at net q) k).offered ≤ processor_frames captures (length net.parsers) (length net.groupers)
   processor_offers q k there less =
       let node : Node = processor_at net q in
-      let few = looked.limited.few (Processor q) there k new_sender less in
+      let few = limited.few (Processor q) there k new_sender less in
       let given : sum_by given_count node.ins ≤ length net.groupers * grouper_frames captures (length net.parsers) =
-      sum_within given_count (new_receiver 0) (grouper_frames captures (length net.parsers)) (length net.groupers) node.ins (looked.shaped.processor_ins q there)
+      sum_within given_count (new_receiver 0) (grouper_frames captures (length net.parsers)) (length net.groupers) node.ins (now.shaped.processor_ins q there)
       (λ j within. (processor_takes q j there within).given) in
       let taken : taken_up node ≤ length net.groupers * grouper_frames captures (length net.parsers) =
-      none_and node.records (sum_by given_count node.ins) (length net.groupers * grouper_frames captures (length net.parsers)) (looked.limited.processors q there).records given in
+      none_and node.records (sum_by given_count node.ins) (length net.groupers * grouper_frames captures (length net.parsers)) (limited.processors q there).records given in
       offers_at_most (length (out_at node k).offered) (taken_up node) (length net.groupers * grouper_frames captures (length net.parsers)) frames_beside few taken
 
   -- ---- what the merge takes
@@ -168,17 +168,17 @@ module _ (captures credits : ℕ) (net : Net) (looked : IsLooked captures credit
   merge_takes : (j : ℕ) → j < length net.merge.ins
       → Taken (in_at net.merge j) (parser_frames captures + processor_frames captures (length net.parsers) (length net.groupers))
   merge_takes j less =
-      let count = looked.shaped.merge_ins in
+      let count = now.shaped.merge_ins in
       ⊎_elim
       (λ (early : j < length net.parsers).
       let out : length net.groupers < length (parser_at net j).outs = parser_link j (length net.groupers) early (omega arith) in
       let few : length (out_at (parser_at net j) (length net.groupers)).offered ≤ parser_frames captures = parser_offers j (length net.groupers) early out in
       taken_at (Parser j) (length net.groupers) Merge j (parser_frames captures + processor_frames captures (length net.parsers) (length net.groupers)) early tt out less
-      (looked.linked.to_merge j early) (omega arith))
+      (now.linked.to_merge j early) (omega arith))
       (λ (late : length net.parsers ≤ j).
       let within : j - length net.parsers < length net.processors = omega arith in
       let place : length net.parsers + (j - length net.parsers) ≡ j = omega arith in
-      let outs = looked.shaped.processor_outs (j - length net.parsers) within in
+      let outs = now.shaped.processor_outs (j - length net.parsers) within in
       let out : 0 < length (processor_at net (j - length net.parsers)).outs = omega arith in
       let few : length (out_at (processor_at net (j - length net.parsers)) 0).offered ≤ processor_frames captures (length net.parsers) (length net.groupers) =
       processor_offers (j - length net.parsers) 0 within out in
@@ -186,7 +186,7 @@ module _ (captures credits : ℕ) (net : Net) (looked : IsLooked captures credit
       subst (λ (n : ℕ). Taken (in_at net.merge n) (parser_frames captures + processor_frames captures (length net.parsers) (length net.groupers))) place
       (taken_at (Processor (j - length net.parsers)) 0 Merge (length net.parsers + (j - length net.parsers))
       (parser_frames captures + processor_frames captures (length net.parsers) (length net.groupers)) within tt out same
-      (looked.linked.from_processor (j - length net.parsers) within) (omega arith)))
+      (now.linked.from_processor (j - length net.parsers) within) (omega arith)))
       (cases_lt j (length net.parsers))
 
   -- ---- what each node has moved
@@ -207,42 +207,42 @@ module _ (captures credits : ℕ) (net : Net) (looked : IsLooked captures credit
   parser_moved : (p : ℕ) → p < length net.parsers → moved (parser_at net p) ≤ parser_most captures (length net.groupers)
   parser_moved p there =
       let node : Node = parser_at net p in
-      let reads = looked.limited.parsers p there in
+      let reads = limited.parsers p there in
       four_parts node.read node.records (sum_by sent_by node.outs) (sum_by taken_by node.ins)
       (captures * (capture_bytes + piece_bytes)) (captures * capture_records) (most_sent (length net.groupers + 1) (parser_frames captures))
       reads.read reads.records
-      (sent_at (Parser p) (parser_frames captures) (length net.groupers + 1) there (looked.shaped.parser_outs p there) (λ k less. parser_offers p k there less))
-      (sum_of_none taken_by (new_receiver 0) node.ins (looked.shaped.parser_ins p there))
+      (sent_at (Parser p) (parser_frames captures) (length net.groupers + 1) there (now.shaped.parser_outs p there) (λ k less. parser_offers p k there less))
+      (sum_of_none taken_by (new_receiver 0) node.ins (now.shaped.parser_ins p there))
 
   grouper_moved : (g : ℕ) → g < length net.groupers → moved (grouper_at net g) ≤ grouper_most captures (length net.parsers) (length net.processors)
   grouper_moved g there =
       let node : Node = grouper_at net g in
-      let reads = looked.limited.groupers g there in
+      let reads = limited.groupers g there in
       two_parts node.read node.records (sum_by sent_by node.outs) (sum_by taken_by node.ins)
       (most_sent (length net.processors) (grouper_frames captures (length net.parsers))) (most_taken (length net.parsers) (parser_frames captures))
       reads.read reads.records
-      (sent_at (Grouper g) (grouper_frames captures (length net.parsers)) (length net.processors) there (looked.shaped.grouper_outs g there) (λ k less. grouper_offers g k there less))
-      (took_at (Grouper g) (parser_frames captures) (length net.parsers) (looked.shaped.grouper_ins g there) (λ j less. grouper_takes g j there less))
+      (sent_at (Grouper g) (grouper_frames captures (length net.parsers)) (length net.processors) there (now.shaped.grouper_outs g there) (λ k less. grouper_offers g k there less))
+      (took_at (Grouper g) (parser_frames captures) (length net.parsers) (now.shaped.grouper_ins g there) (λ j less. grouper_takes g j there less))
 
   processor_moved : (q : ℕ) → q < length net.processors → moved (processor_at net q) ≤ processor_most captures (length net.parsers) (length net.groupers)
   processor_moved q there =
       let node : Node = processor_at net q in
-      let reads = looked.limited.processors q there in
+      let reads = limited.processors q there in
       two_parts node.read node.records (sum_by sent_by node.outs) (sum_by taken_by node.ins)
       (most_sent 1 (processor_frames captures (length net.parsers) (length net.groupers)))
       (most_taken (length net.groupers) (grouper_frames captures (length net.parsers)))
       reads.read reads.records
-      (sent_at (Processor q) (processor_frames captures (length net.parsers) (length net.groupers)) 1 there (looked.shaped.processor_outs q there) (λ k less. processor_offers q k there less))
-      (took_at (Processor q) (grouper_frames captures (length net.parsers)) (length net.groupers) (looked.shaped.processor_ins q there) (λ j less. processor_takes q j there less))
+      (sent_at (Processor q) (processor_frames captures (length net.parsers) (length net.groupers)) 1 there (now.shaped.processor_outs q there) (λ k less. processor_offers q k there less))
+      (took_at (Processor q) (grouper_frames captures (length net.parsers)) (length net.groupers) (now.shaped.processor_ins q there) (λ j less. processor_takes q j there less))
 
   merge_moved : moved net.merge ≤ merge_most captures (length net.parsers) (length net.groupers) (length net.processors)
   merge_moved =
-      let reads = looked.limited.merge in
+      let reads = limited.merge in
       last_part net.merge.read net.merge.records (sum_by sent_by net.merge.outs) (sum_by taken_by net.merge.ins)
       (merge_most captures (length net.parsers) (length net.groupers) (length net.processors))
-      reads.read reads.records (sum_of_none sent_by new_sender net.merge.outs looked.shaped.merge_outs)
+      reads.read reads.records (sum_of_none sent_by new_sender net.merge.outs now.shaped.merge_outs)
       (took_at Merge (parser_frames captures + processor_frames captures (length net.parsers) (length net.groupers)) (length net.parsers + length net.processors)
-      looked.shaped.merge_ins merge_takes)
+      now.shaped.merge_ins merge_takes)
 
   all_within : all_moved net ≤ all_most captures net
   unfolding most_moved
@@ -261,12 +261,12 @@ module _ (captures credits : ℕ) (net : Net) (looked : IsLooked captures credit
   has_bound = record {
     moved = all_within;
     parser_links = λ p k there less. parser_offers p k there (parser_link p k there less);
-    grouper_links = λ g q there less. let count = looked.shaped.grouper_outs g there in grouper_offers g q there (omega arith);
-    processor_links = λ q there. let count = looked.shaped.processor_outs q there in processor_offers q 0 there (omega arith);
+    grouper_links = λ g q there less. let count = now.shaped.grouper_outs g there in grouper_offers g q there (omega arith);
+    processor_links = λ q there. let count = now.shaped.processor_outs q there in processor_offers q 0 there (omega arith);
   }
 
 pub run_has_bound : (captures credits : ℕ) (net : Net) → RunHasBound captures credits net
-run_has_bound captures credits net looked = has_bound captures credits net looked
+run_has_bound captures credits net now limited = has_bound captures credits net now limited
 
 -- ---- the frames of a link fit
 

@@ -7,3 +7,4 @@ pub mod Bounds
 pub mod Counts
 pub mod Needed
 pub mod Offers
+pub mod Starts

@@ -2,8 +2,8 @@
 use Rattle.std.specs.Prelude.{ℕ, ◌≡◌, ◌+◌, ◌-◌, ◌*◌, ◌^◌, ◌<◌, ◌≤◌, length, max}
 use Rattle.std.specs.List.{sum_by}
 use Rattle.round_law.specs.Waits.{Node, out_at}
-use Rattle.round_law.specs.Rows.{moved, frames_beside, OffersFew, IsOrderly, HasSoundEnds}
-use Rattle.round_law.specs.Network.{Net, Place, parser_at, grouper_at, processor_at, node_of, IsIn, IsShaped, IsLinked}
+use Rattle.round_law.specs.Rows.{moved, frames_beside, OffersFew}
+use Rattle.round_law.specs.Network.{Net, Place, parser_at, grouper_at, processor_at, node_of, IsIn, IsSound, new_net}
 
 -- ---- the limits
 
@@ -101,14 +101,6 @@ pub record IsLimited (captures : ℕ) (net : Net) : Type 0 where
   pub merge : ReadsNone net.merge
   pub few : (place : Place) → IsIn net place → OffersFew (node_of net place)
 
--- a pipeline after a look, between turns that gave no fault
-pub record IsLooked (captures credits : ℕ) (net : Net) : Type 0 where
-  pub shaped : IsShaped net
-  pub linked : IsLinked credits net
-  pub orderly : (place : Place) → IsIn net place → IsOrderly (node_of net place)
-  pub sound : (place : Place) → IsIn net place → HasSoundEnds credits (node_of net place)
-  pub limited : IsLimited captures net
-
 -- what has moved is at most the most, and no link had more frames than its most
 pub record HasBound (captures : ℕ) (net : Net) : Type 0 where
   pub moved : all_moved net ≤ all_most captures net
@@ -120,7 +112,7 @@ pub record HasBound (captures : ℕ) (net : Net) : Type 0 where
       → length (out_at (processor_at net q) 0).offered ≤ processor_frames captures (length net.parsers) (length net.groupers)
 
 abbrev pub RunHasBound : (captures credits : ℕ) → Net → Type 0
-RunHasBound captures credits net = IsLooked captures credits net → HasBound captures net
+RunHasBound captures credits net = IsSound credits net → IsLimited captures net → HasBound captures net
 
 -- no node's count falls, and some node's rises
 pub record SomeMoves (before after : Net) : Type 0 where
@@ -138,3 +130,7 @@ MovesLower captures before after = SomeMoves before after → all_moved after �
 abbrev pub FramesFit : (captures parsers groupers : ℕ) → Type 0
 FramesFit captures parsers groupers = captures ≤ 64 → parsers ≤ 16 → groupers ≤ 16
     → (parser_frames captures < 2 ^ 58) × (grouper_frames captures parsers < 2 ^ 58) × (processor_frames captures parsers groupers < 2 ^ 58)
+
+-- a new pipeline is within the limits
+abbrev pub StartIsLimited : (captures credits parsers groupers processors : ℕ) → Type 0
+StartIsLimited captures credits parsers groupers processors = IsLimited captures (new_net credits parsers groupers processors)

@@ -1,7 +1,7 @@
 -- Networks of nodes: links lead from each node to one of a higher rank. First any such network, then the
 -- pipeline: parsers, groupers, processors and one merge.
-use Rattle.std.specs.Prelude.{ℕ, ◌≡◌, ◌+◌, ◌<◌, true, List, [], length, slice_index_or}
-use Rattle.round_law.specs.Links.{AreJoined}
+use Rattle.std.specs.Prelude.{ℕ, ◌≡◌, ◌+◌, ◌<◌, Bool, true, false, List, [], length, replicate, slice_index_or}
+use Rattle.round_law.specs.Links.{AreJoined, IsSettled, new_sender, new_receiver}
 use Rattle.round_law.specs.Waits.{Node, in_at, out_at, IsDone}
 use Rattle.round_law.specs.Rows.{IsOrderly, HasSoundEnds, Rests}
 
@@ -100,11 +100,16 @@ pub record IsLinked (credits : ℕ) (net : Net) : Type 0 where
   pub from_processor : (q : ℕ) → q < length net.processors
       → AreJoined credits (out_at (processor_at net q) 0) (in_at net.merge (length net.parsers + q))
 
+-- after a look, between turns that gave no fault
+pub record IsSound (credits : ℕ) (net : Net) : Type 0 where
+  pub shaped : IsShaped net
+  pub linked : IsLinked credits net
+  pub orderly : (place : Place) → IsIn net place → IsOrderly (node_of net place)
+  pub sound : (place : Place) → IsIn net place → HasSoundEnds credits (node_of net place)
+
+-- each node answered Idle or Done in a round that began so
 pub record IsQuietRound (credits : ℕ) (before after : Net) : Type 0 where
-  pub shaped : IsShaped before
-  pub linked : IsLinked credits before
-  pub orderly : (place : Place) → IsIn before place → IsOrderly (node_of before place)
-  pub sound : (place : Place) → IsIn before place → HasSoundEnds credits (node_of before place)
+  pub sound : IsSound credits before
   pub sound_after : (place : Place) → IsIn before place → HasSoundEnds credits (node_of after place)
   pub rests : (place : Place) → IsIn before place → Rests credits (node_of before place) (node_of after place)
 
@@ -112,3 +117,34 @@ pub record IsQuietRound (credits : ℕ) (before after : Net) : Type 0 where
 abbrev pub QuietIsDone : (credits : ℕ) (before after : Net) → Type 0
 QuietIsDone credits before after = IsQuietRound credits before after
     → (place : Place) → IsIn before place → IsDone (node_of before place) × IsDone (node_of after place)
+
+-- ---- a finished pipeline
+
+-- each link of a pipeline is settled
+pub record AllSettled (net : Net) : Type 0 where
+  pub to_grouper : (p g : ℕ) → p < length net.parsers → g < length net.groupers → IsSettled (out_at (parser_at net p) g) (in_at (grouper_at net g) p)
+  pub to_merge : (p : ℕ) → p < length net.parsers → IsSettled (out_at (parser_at net p) (length net.groupers)) (in_at net.merge p)
+  pub to_processor : (g q : ℕ) → g < length net.groupers → q < length net.processors → IsSettled (out_at (grouper_at net g) q) (in_at (processor_at net q) g)
+  pub from_processor : (q : ℕ) → q < length net.processors → IsSettled (out_at (processor_at net q) 0) (in_at net.merge (length net.parsers + q))
+
+-- where all nodes are done, each link is settled
+abbrev pub AllDoneIsSettled : (credits : ℕ) → Net → Type 0
+AllDoneIsSettled credits net = IsSound credits net → ((place : Place) → IsIn net place → IsDone (node_of net place)) → AllSettled net
+
+-- ---- the start of a pipeline
+
+-- a node that has done nothing
+abbrev pub new_node : (credits ins outs : ℕ) (wrote_all : Bool) → Node
+new_node credits ins outs wrote_all =
+    record { read = 0; records = 0; wrote_all = wrote_all; ins = replicate ins (new_receiver credits); outs = replicate outs new_sender }
+
+abbrev pub new_net : (credits parsers groupers processors : ℕ) → Net
+new_net credits parsers groupers processors = record {
+  parsers = replicate parsers (new_node credits 0 (groupers + 1) true);
+  groupers = replicate groupers (new_node credits parsers processors true);
+  processors = replicate processors (new_node credits groupers 1 true);
+  merge = new_node credits (parsers + processors) 0 false;
+}
+
+abbrev pub StartIsSound : (credits parsers groupers processors : ℕ) → Type 0
+StartIsSound credits parsers groupers processors = 0 < credits → IsSound credits (new_net credits parsers groupers processors)

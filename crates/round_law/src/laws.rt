@@ -2,9 +2,9 @@
 
 ghost use Rattle.std.specs.Prelude.{ℕ, Bool, IsTrue};
 ghost use Rattle.round_law.specs.Links.{DoneIsSettled, Receiver, Sender, StartsSound};
-ghost use Rattle.round_law.specs.Measure.{FramesFit, MovesLower, RunHasBound};
+ghost use Rattle.round_law.specs.Measure.{FramesFit, MovesLower, RunHasBound, StartIsLimited};
 ghost use Rattle.round_law.specs.Needed.{Clause, EachClauseIsNeeded};
-ghost use Rattle.round_law.specs.Network.{Net, QuietIsDone, StillIsDone};
+ghost use Rattle.round_law.specs.Network.{AllDoneIsSettled, Net, QuietIsDone, StartIsSound, StillIsDone};
 ghost use Rattle.round_law.specs.Offers.{KindsAreFew};
 ghost use Rattle.round_law.specs.Rows.{StillCounts};
 ghost use Rattle.round_law.specs.Waits.{Node};
@@ -12,6 +12,13 @@ ghost use Rattle.round_law.specs.Waits.{Node};
 /// A law: a new link is sound, and joined where there is a credit.
 pub fn start_is_sound()
     ensures { (credits : ℕ) → StartsSound credits }
+{}
+
+/// A law: a new pipeline, with any numbers of nodes and at least one credit, is sound and within the
+/// limits.
+pub fn new_is_sound()
+    ensures sound { (credits parsers groupers processors : ℕ) → StartIsSound credits parsers groupers processors }
+    ensures limited { (captures credits parsers groupers processors : ℕ) → StartIsLimited captures credits parsers groupers processors }
 {}
 
 /// A law: a link whose sender and receiver are done is settled.
@@ -29,6 +36,11 @@ pub fn still_is_done<N>()
 /// A law: the same of the pipeline, with any numbers of parsers, groupers and processors.
 pub fn quiet_is_done()
     ensures { (credits : ℕ) (before after : Net) → QuietIsDone credits before after }
+{}
+
+/// A law: where all nodes of a pipeline are done, each of its links is settled.
+pub fn all_done_is_settled()
+    ensures { (credits : ℕ) (net : Net) → AllDoneIsSettled credits net }
 {}
 
 /// A law: a node that stands still has moved as much as before.
