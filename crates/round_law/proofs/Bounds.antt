@@ -9,11 +9,11 @@ use Rattle.node_frames.specs.Fields.{bytes_of}
 use Rattle.node_frames.specs.Table.{payload_of}
 use Rattle.node_frames.specs.Link.{Opens, SpellsFrom, framed, wire_of}
 use Rattle.node_frames.proofs.Bytes.{length-bytes_of}
-use Rattle.round_law.specs.Links.{Sender, Receiver, new_sender, new_receiver, IsSender, IsReceiver, IsGranted, AreJoined}
+use Rattle.round_law.specs.Links.{Sender, Receiver, new_sender, new_receiver, IsSender, IsReceiver, IsGranted, ComesThrough}
 use Rattle.round_law.specs.Waits.{Node, in_at, out_at}
 use Rattle.round_law.specs.Rows.{sent_by, taken_by, moved, taken_up, frames_beside}
-use Rattle.round_law.specs.Network.{Net, Place, no_node, parser_at, grouper_at, processor_at, node_of, IsIn, IsSound}
-use Rattle.round_law.specs.Network.Place.{Parser, Grouper, Processor, Merge}
+use Rattle.round_law.specs.Pipeline.{Net, Place, no_node, parser_at, grouper_at, processor_at, node_of, IsIn, IsSound, EachLink}
+use Rattle.round_law.specs.Pipeline.Place.{Parser, Grouper, Processor, Merge}
 use Rattle.round_law.specs.Measure.{capture_records, capture_bytes, piece_bytes, frame_bytes, parser_frames, grouper_frames, processor_frames, most_sent, most_taken, parser_most, grouper_most, processor_most, merge_most, most_moved, all_most, all_moved, IsLimited, HasBound, RunHasBound, FramesFit}
 use Rattle.round_law.proofs.Ends.{Later, later_frames, given_within}
 use Rattle.round_law.proofs.Sums.{sum_within, sum_of_none}
@@ -55,14 +55,14 @@ record Taken (r : Receiver) (frames : ℕ) : Type 0 where
   given : length r.given ≤ frames
   taken : taken_by r ≤ (frame_bytes + 2) * frames
 
-taken_within : (credits : ℕ) (s : Sender) (r : Receiver) (frames : ℕ) → IsSender credits s → IsReceiver r → IsGranted r → AreJoined credits s r
+taken_within : (credits : ℕ) (s : Sender) (r : Receiver) (frames : ℕ) → IsSender credits s → IsReceiver r → IsGranted r → ComesThrough s r
     → length s.offered ≤ frames → Taken r frames
 unfolding frame_bytes
 taken_within credits s r frames sends takes granted joined few =
-    let later : Later s r joined.ring = later_frames credits s r joined.ring sends takes joined.through in
-    let given : length r.given ≤ length s.offered = given_within s r joined.ring later in
+    let later : Later s r joined.0 = later_frames credits s r joined.0 sends takes joined.1 in
+    let given : length r.given ≤ length s.offered = given_within s r joined.0 later in
     let put = put_within credits s sends in
-    let got : length s.put ≡ length r.got + length joined.ring = ap length joined.through ∙ length-append r.got joined.ring in
+    let got : length s.put ≡ length r.got + length joined.0 = ap length joined.1 ∙ length-append r.got joined.0 in
     record { given = omega arith; taken = omega arith }
 
 -- ---- numbers
@@ -93,16 +93,16 @@ all_and_none records taken most within none = omega arith
 abbrev given_count : Receiver → ℕ
 given_count r = length r.given
 
-module _ (captures credits : ℕ) (net : Net) (now : IsSound credits net) (limited : IsLimited captures net) where
+module _ (captures credits : ℕ) (net : Net) (now : IsSound credits net) (through : EachLink ComesThrough net) (limited : IsLimited captures net) where
   sender : (place : Place) → IsIn net place → (k : ℕ) → k < length (node_of net place).outs → IsSender credits (out_at (node_of net place) k)
-  sender place there k less = (now.sound place there).senders k new_sender less
+  sender place there k less = (now.ends place there).senders k new_sender less
 
   taken_at : (from : Place) (k : ℕ) (to : Place) (j frames : ℕ) → IsIn net from → IsIn net to → k < length (node_of net from).outs → j < length (node_of net to).ins
-      → AreJoined credits (out_at (node_of net from) k) (in_at (node_of net to) j) → length (out_at (node_of net from) k).offered ≤ frames
+      → ComesThrough (out_at (node_of net from) k) (in_at (node_of net to) j) → length (out_at (node_of net from) k).offered ≤ frames
       → Taken (in_at (node_of net to) j) frames
   taken_at from k to j frames hf ht out into joined few =
       taken_within credits (out_at (node_of net from) k) (in_at (node_of net to) j) frames (sender from hf k out)
-      ((now.sound to ht).receivers j (new_receiver 0) into) ((now.orderly to ht).granted j (new_receiver 0) into) joined few
+      ((now.ends to ht).receivers j (new_receiver 0) into) ((now.orderly to ht).granted j (new_receiver 0) into) joined few
 
   -- ---- what parsers offer
 
@@ -125,7 +125,7 @@ module _ (captures credits : ℕ) (net : Net) (now : IsSound credits net) (limit
       let count = now.shaped.grouper_ins g there in
       let from : j < length net.parsers = omega arith in
       let out : g < length (parser_at net j).outs = parser_link j g from (omega arith) in
-      taken_at (Parser j) g (Grouper g) j (parser_frames captures) from there out less (now.linked.to_grouper j g from there) (parser_offers j g from out)
+      taken_at (Parser j) g (Grouper g) j (parser_frames captures) from there out less (through.to_grouper j g from there) (parser_offers j g from out)
 
   grouper_offers : (g q : ℕ) → g < length net.groupers → q < length (grouper_at net g).outs
       → length (out_at (grouper_at net g) q).offered ≤ grouper_frames captures (length net.parsers)
@@ -149,7 +149,7 @@ module _ (captures credits : ℕ) (net : Net) (now : IsSound credits net) (limit
       let outs = now.shaped.grouper_outs j from in
       let out : q < length (grouper_at net j).outs = omega arith in
       taken_at (Grouper j) q (Processor q) j (grouper_frames captures (length net.parsers)) from there out less
-      (now.linked.to_processor j q from there) (grouper_offers j q from out)
+      (through.to_processor j q from there) (grouper_offers j q from out)
 
   processor_offers : (q k : ℕ) → q < length net.processors → k < length (processor_at net q).outs
       → length (out_at (processor_at net q) k).offered ≤ processor_frames captures (length net.parsers) (length net.groupers)
@@ -174,7 +174,7 @@ module _ (captures credits : ℕ) (net : Net) (now : IsSound credits net) (limit
       let out : length net.groupers < length (parser_at net j).outs = parser_link j (length net.groupers) early (omega arith) in
       let few : length (out_at (parser_at net j) (length net.groupers)).offered ≤ parser_frames captures = parser_offers j (length net.groupers) early out in
       taken_at (Parser j) (length net.groupers) Merge j (parser_frames captures + processor_frames captures (length net.parsers) (length net.groupers)) early tt out less
-      (now.linked.to_merge j early) (omega arith))
+      (through.to_merge j early) (omega arith))
       (λ (late : length net.parsers ≤ j).
       let within : j - length net.parsers < length net.processors = omega arith in
       let place : length net.parsers + (j - length net.parsers) ≡ j = omega arith in
@@ -186,7 +186,7 @@ module _ (captures credits : ℕ) (net : Net) (now : IsSound credits net) (limit
       subst (λ (n : ℕ). Taken (in_at net.merge n) (parser_frames captures + processor_frames captures (length net.parsers) (length net.groupers))) place
       (taken_at (Processor (j - length net.parsers)) 0 Merge (length net.parsers + (j - length net.parsers))
       (parser_frames captures + processor_frames captures (length net.parsers) (length net.groupers)) within tt out same
-      (now.linked.from_processor (j - length net.parsers) within) (omega arith)))
+      (through.from_processor (j - length net.parsers) within) (omega arith)))
       (cases_lt j (length net.parsers))
 
   -- ---- what each node has moved
@@ -266,7 +266,7 @@ module _ (captures credits : ℕ) (net : Net) (now : IsSound credits net) (limit
   }
 
 pub run_has_bound : (captures credits : ℕ) (net : Net) → RunHasBound captures credits net
-run_has_bound captures credits net now limited = has_bound captures credits net now limited
+run_has_bound captures credits net now through limited = has_bound captures credits net now through limited
 
 -- ---- the frames of a link fit
 

@@ -4,8 +4,8 @@ use Rattle.std.specs.List.{sum_by}
 use Rattle.round_law.specs.Links.{Sender, Receiver, new_sender, new_receiver}
 use Rattle.round_law.specs.Waits.{Node, in_at, out_at}
 use Rattle.round_law.specs.Rows.{sent_by, taken_by, moved, SenderStays, ReceiverStays, StillCounts}
-use Rattle.round_law.specs.Network.{Net, Place, no_node, node_of, IsIn}
-use Rattle.round_law.specs.Network.Place.{Parser, Grouper, Processor, Merge}
+use Rattle.round_law.specs.Pipeline.{Net, Place, no_node, node_of, IsIn}
+use Rattle.round_law.specs.Pipeline.Place.{Parser, Grouper, Processor, Merge}
 use Rattle.round_law.specs.Measure.{most_moved, all_most, all_moved, SomeMoves, MovesLower}
 use Rattle.round_law.proofs.Sums.{sum_same, sum_no_less, sum_rises}
 

@@ -1,10 +1,11 @@
 -- The pipeline is a network: its links raise the rank parser, grouper, processor, merge.
 use Rattle.std.proofs.Common.{ℕ, ◌+◌, ◌-◌, ◌<◌, ◌≤◌, ◌≡◌, length, subst, ⊎_elim, arith}
 use Rattle.std.proofs.lemmas.Bool.{cases_lt}
-use Rattle.round_law.specs.Links.{IsSettled, new_sender, new_receiver}
+use Rattle.round_law.specs.Links.{AreJoined, IsSettled, new_sender, new_receiver}
 use Rattle.round_law.specs.Waits.{IsDone, in_at, out_at}
-use Rattle.round_law.specs.Network.{Leads, IsNetwork, Net, Place, parser_at, node_of, IsIn, IsShaped, IsLinked, IsSound, QuietIsDone, AllSettled, AllDoneIsSettled}
-use Rattle.round_law.specs.Network.Place.{Parser, Grouper, Processor, Merge}
+use Rattle.round_law.specs.Network.{Leads, IsNetwork}
+use Rattle.round_law.specs.Pipeline.{Net, Place, parser_at, node_of, IsIn, IsShaped, EachNode, EachLink, IsSound, QuietIsDone, AllDoneIsSettled, JoinedComesThrough}
+use Rattle.round_law.specs.Pipeline.Place.{Parser, Grouper, Processor, Merge}
 use Rattle.round_law.proofs.Ends.{done_is_settled}
 use Rattle.round_law.proofs.Rounds.{still_is_done}
 
@@ -14,7 +15,7 @@ rank_of (Grouper g) = 1
 rank_of (Processor q) = 2
 rank_of Merge = 3
 
-module _ (credits : ℕ) (net : Net) (shaped : IsShaped net) (linked : IsLinked credits net) where
+module _ (credits : ℕ) (net : Net) (shaped : IsShaped net) (linked : EachLink (AreJoined credits) net) where
   abbrev There : Place → Type 0
   There = IsIn net
 
@@ -104,31 +105,39 @@ pub quiet_is_done : (credits : ℕ) (before after : Net) → QuietIsDone credits
 quiet_is_done credits before after round =
     still_is_done (IsIn before) rank_of credits (node_of before) (node_of after)
     (record {
-      network = is_network credits before round.sound.shaped round.sound.linked;
+      network = is_network credits before round.sound.shaped round.joined;
       orderly = round.sound.orderly;
-      sound = round.sound.sound;
-      sound_after = round.sound_after;
+      sound = round.sound.ends;
+      sound_after = round.ends;
       rests = round.rests;
     })
 
 -- ---- a finished pipeline
 
-module _ (credits : ℕ) (net : Net) (sound : IsSound credits net) (done : (place : Place) → IsIn net place → IsDone (node_of net place)) where
+module _ (credits : ℕ) (net : Net) (sound : IsSound credits net) (joined : EachLink (AreJoined credits) net) (done : EachNode IsDone net) where
   settled : (from : Place) (k : ℕ) (to : Place) (j : ℕ) → Leads (IsIn net) rank_of credits (node_of net) from k to j
       → IsSettled (out_at (node_of net from) k) (in_at (node_of net to) j)
   settled from k to j leads =
       done_is_settled credits (out_at (node_of net from) k) (in_at (node_of net to) j)
-      ((sound.sound from leads.from).senders k new_sender leads.out) ((sound.orderly from leads.from).offered k new_sender leads.out)
-      ((sound.sound to leads.to).receivers j (new_receiver 0) leads.into) ((sound.orderly to leads.to).granted j (new_receiver 0) leads.into)
+      ((sound.ends from leads.from).senders k new_sender leads.out) ((sound.orderly from leads.from).offered k new_sender leads.out)
+      ((sound.ends to leads.to).receivers j (new_receiver 0) leads.into) ((sound.orderly to leads.to).granted j (new_receiver 0) leads.into)
       leads.joined ((done from leads.from).outs k new_sender leads.out) ((done to leads.to).ins j (new_receiver 0) leads.into)
 
-  all_settled : AllSettled net
+  all_settled : EachLink IsSettled net
   all_settled = record {
-    to_grouper = λ p g hp hg. settled (Parser p) g (Grouper g) p (to_grouper credits net sound.shaped sound.linked p g hp hg);
-    to_merge = λ p hp. settled (Parser p) (length net.groupers) Merge p (to_merge credits net sound.shaped sound.linked p hp);
-    to_processor = λ g q hg hq. settled (Grouper g) q (Processor q) g (to_processor credits net sound.shaped sound.linked g q hg hq);
-    from_processor = λ q hq. settled (Processor q) 0 Merge (length net.parsers + q) (from_processor credits net sound.shaped sound.linked q hq);
+    to_grouper = λ p g hp hg. settled (Parser p) g (Grouper g) p (to_grouper credits net sound.shaped joined p g hp hg);
+    to_merge = λ p hp. settled (Parser p) (length net.groupers) Merge p (to_merge credits net sound.shaped joined p hp);
+    to_processor = λ g q hg hq. settled (Grouper g) q (Processor q) g (to_processor credits net sound.shaped joined g q hg hq);
+    from_processor = λ q hq. settled (Processor q) 0 Merge (length net.parsers + q) (from_processor credits net sound.shaped joined q hq);
   }
 
 pub all_done_is_settled : (credits : ℕ) (net : Net) → AllDoneIsSettled credits net
-all_done_is_settled credits net sound done = all_settled credits net sound done
+all_done_is_settled credits net sound joined done = all_settled credits net sound joined done
+
+pub joined_comes_through : (credits : ℕ) (net : Net) → JoinedComesThrough credits net
+joined_comes_through credits net joined = record {
+  to_grouper = λ p g hp hg. ((joined.to_grouper p g hp hg).ring, (joined.to_grouper p g hp hg).through);
+  to_merge = λ p hp. ((joined.to_merge p hp).ring, (joined.to_merge p hp).through);
+  to_processor = λ g q hg hq. ((joined.to_processor g q hg hq).ring, (joined.to_processor g q hg hq).through);
+  from_processor = λ q hq. ((joined.from_processor q hq).ring, (joined.from_processor q hq).through);
+}

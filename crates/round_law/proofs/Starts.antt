@@ -5,8 +5,8 @@ use Rattle.std.proofs.lemmas.List.{length-replicate, get_or-replicate}
 use Rattle.round_law.specs.Links.{Sender, Receiver, new_sender, new_receiver, FinishIsLast, IsSender, IsReceiver, IsGranted, AreJoined}
 use Rattle.round_law.specs.Waits.{Node, in_at, out_at}
 use Rattle.round_law.specs.Rows.{IsOrderly, HasSoundEnds, OffersFew, taken_up, frames_beside}
-use Rattle.round_law.specs.Network.{Place, no_node, parser_at, grouper_at, processor_at, node_of, IsIn, IsShaped, IsLinked, new_node, new_net, StartIsSound}
-use Rattle.round_law.specs.Network.Place.{Parser, Grouper, Processor, Merge}
+use Rattle.round_law.specs.Pipeline.{Place, no_node, parser_at, grouper_at, processor_at, node_of, IsIn, IsShaped, EachLink, new_node, new_net, StartIsSound}
+use Rattle.round_law.specs.Pipeline.Place.{Parser, Grouper, Processor, Merge}
 use Rattle.round_law.specs.Measure.{ReadsFew, ReadsNone, StartIsLimited}
 use Rattle.round_law.proofs.Ends.{start_is_sound}
 
@@ -94,7 +94,7 @@ module _ (credits : ℕ) where
     new_in : (ins outs : ℕ) (wrote_all : Bool) (node : Node) (j : ℕ) → node ≡ new_node credits ins outs wrote_all → j < ins → in_at node j ≡ new_receiver credits
     new_in ins outs wrote_all node j e less = ap (λ (n : Node). in_at n j) e ∙ get_or-replicate ins j (new_receiver credits) (new_receiver 0) less
 
-    linked : 0 < credits → IsLinked credits (new_net credits parsers groupers processors)
+    linked : 0 < credits → EachLink (AreJoined credits) (new_net credits parsers groupers processors)
     linked some = record {
       to_grouper = λ p g hp hg.
           let cp = length-replicate parsers parser in
@@ -123,14 +123,16 @@ module _ (credits : ℕ) where
     }
 
 pub new_is_sound : (credits parsers groupers processors : ℕ) → StartIsSound credits parsers groupers processors
-new_is_sound credits parsers groupers processors some = record {
-  shaped = shaped credits parsers groupers processors;
-  linked = linked credits parsers groupers processors some;
-  orderly = at_place credits parsers groupers processors IsOrderly (orderly credits 0 (groupers + 1) true) (orderly credits parsers processors true) (orderly credits groupers 1 true)
-      (orderly credits (parsers + processors) 0 false);
-  sound = at_place credits parsers groupers processors (HasSoundEnds credits) (sound credits 0 (groupers + 1) true) (sound credits parsers processors true) (sound credits groupers 1 true)
-      (sound credits (parsers + processors) 0 false);
-}
+new_is_sound credits parsers groupers processors some = (
+  record {
+    shaped = shaped credits parsers groupers processors;
+    orderly = at_place credits parsers groupers processors IsOrderly (orderly credits 0 (groupers + 1) true) (orderly credits parsers processors true) (orderly credits groupers 1 true)
+        (orderly credits (parsers + processors) 0 false);
+    ends = at_place credits parsers groupers processors (HasSoundEnds credits) (sound credits 0 (groupers + 1) true) (sound credits parsers processors true) (sound credits groupers 1 true)
+        (sound credits (parsers + processors) 0 false);
+  },
+  linked credits parsers groupers processors some,
+)
 
 pub new_is_limited : (captures credits parsers groupers processors : ℕ) → StartIsLimited captures credits parsers groupers processors
 new_is_limited captures credits parsers groupers processors = record {

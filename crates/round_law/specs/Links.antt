@@ -83,6 +83,10 @@ pub record HasTakenAll (r : Receiver) : Type 0 where
 
 -- ---- both ends
 
+-- what came out of the data pipe is the front of what was put in
+abbrev pub ComesThrough : Sender → Receiver → Type 0
+ComesThrough s r = (ring : List ℕ) × (s.put ≡ r.got ++ ring)
+
 -- after a look at both rings of a link: what came out and what lies in the ring is what was put in, and each end is
 -- sure of exactly the bytes and the free places that there are
 pub record AreJoined (credits : ℕ) (s : Sender) (r : Receiver) : Type 0 where

@@ -3,7 +3,8 @@ use Rattle.std.specs.Prelude.{ℕ, ◌≡◌, ◌+◌, ◌-◌, ◌*◌, ◌^◌
 use Rattle.std.specs.List.{sum_by}
 use Rattle.round_law.specs.Waits.{Node, out_at}
 use Rattle.round_law.specs.Rows.{moved, frames_beside, OffersFew}
-use Rattle.round_law.specs.Network.{Net, Place, parser_at, grouper_at, processor_at, node_of, IsIn, IsSound, new_net}
+use Rattle.round_law.specs.Links.{ComesThrough}
+use Rattle.round_law.specs.Pipeline.{Net, Place, parser_at, grouper_at, processor_at, node_of, IsIn, EachNode, EachLink, IsSound, new_net}
 
 -- ---- the limits
 
@@ -99,7 +100,7 @@ pub record IsLimited (captures : ℕ) (net : Net) : Type 0 where
   pub groupers : (g : ℕ) → g < length net.groupers → ReadsNone (grouper_at net g)
   pub processors : (q : ℕ) → q < length net.processors → ReadsNone (processor_at net q)
   pub merge : ReadsNone net.merge
-  pub few : (place : Place) → IsIn net place → OffersFew (node_of net place)
+  pub few : EachNode OffersFew net
 
 -- what has moved is at most the most, and no link had more frames than its most
 pub record HasBound (captures : ℕ) (net : Net) : Type 0 where
@@ -112,7 +113,7 @@ pub record HasBound (captures : ℕ) (net : Net) : Type 0 where
       → length (out_at (processor_at net q) 0).offered ≤ processor_frames captures (length net.parsers) (length net.groupers)
 
 abbrev pub RunHasBound : (captures credits : ℕ) → Net → Type 0
-RunHasBound captures credits net = IsSound credits net → IsLimited captures net → HasBound captures net
+RunHasBound captures credits net = IsSound credits net → EachLink ComesThrough net → IsLimited captures net → HasBound captures net
 
 -- no node's count falls, and some node's rises
 pub record SomeMoves (before after : Net) : Type 0 where

@@ -4,7 +4,8 @@ ghost use Rattle.std.specs.Prelude.{ℕ, Bool, IsTrue};
 ghost use Rattle.round_law.specs.Links.{DoneIsSettled, Receiver, Sender, StartsSound};
 ghost use Rattle.round_law.specs.Measure.{FramesFit, MovesLower, RunHasBound, StartIsLimited};
 ghost use Rattle.round_law.specs.Needed.{Clause, EachClauseIsNeeded};
-ghost use Rattle.round_law.specs.Network.{AllDoneIsSettled, Net, QuietIsDone, StartIsSound, StillIsDone};
+ghost use Rattle.round_law.specs.Network.{StillIsDone};
+ghost use Rattle.round_law.specs.Pipeline.{AllDoneIsSettled, JoinedComesThrough, Net, QuietIsDone, StartIsSound};
 ghost use Rattle.round_law.specs.Offers.{KindsAreFew};
 ghost use Rattle.round_law.specs.Rows.{StillCounts};
 ghost use Rattle.round_law.specs.Waits.{Node};
@@ -41,6 +42,11 @@ pub fn quiet_is_done()
 /// A law: where all nodes of a pipeline are done, each of its links is settled.
 pub fn all_done_is_settled()
     ensures { (credits : ℕ) (net : Net) → AllDoneIsSettled credits net }
+{}
+
+/// A law: of joined ends, what came out is the front of what was put in.
+pub fn joined_comes_through()
+    ensures { (credits : ℕ) (net : Net) → JoinedComesThrough credits net }
 {}
 
 /// A law: a node that stands still has moved as much as before.
