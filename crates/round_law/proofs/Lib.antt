@@ -8,3 +8,4 @@ pub mod Counts
 pub mod Needed
 pub mod Offers
 pub mod Starts
+pub mod Finished

@@ -21,11 +21,11 @@ use Rattle.round_law.proofs.Ends.{no_frame_opens_nothing}
 
 -- ---- lists of one
 
-all_one : {X : Type 0} (P : X → Type 0) (x : X) → P x → All P (x ∷ [])
+pub all_one : {X : Type 0} (P : X → Type 0) (x : X) → P x → All P (x ∷ [])
 all_one P x h zero d less = h
 all_one P x h (suc k) d less = absurd (omega arith)
 
-all_none : {X : Type 0} (P : X → Type 0) → All P []
+pub all_none : {X : Type 0} (P : X → Type 0) → All P []
 all_none P k d less = absurd (omega arith)
 
 -- ---- the two nodes, from what each end and the link need

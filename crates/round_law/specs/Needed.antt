@@ -4,7 +4,7 @@ use Rattle.round_law.specs.Links.{Sender, Receiver, has_finish, OpensNoFrame}
 use Rattle.round_law.specs.Waits.{Node, PipeEnd, sure_at, in_at, NoneWaits, Waits, IsDone}
 use Rattle.round_law.specs.Waits.PipeEnd.{DataOut, CreditOut, DataIn, CreditIn}
 use Rattle.round_law.specs.Rows.{IsOrderly, HasSoundEnds, OffersFew}
-use Rattle.round_law.specs.Network.{IsNetwork}
+use Rattle.round_law.specs.Network.{IsNetwork, IsStillRound}
 
 -- the clauses: it waits on some pipe end, it was sure of no byte of such an end of each of the four kinds, and the box
 -- opens no frame
@@ -55,3 +55,7 @@ pub record IsStuckWithout (clause : Clause) (s : Sender) (r : Receiver) : Type 0
 
 abbrev pub EachClauseIsNeeded : Clause → Type 0
 EachClauseIsNeeded clause = (s : Sender) × (r : Receiver) × IsStuckWithout clause s r
+
+-- and all clauses together can be met: two nodes that are done stand still
+abbrev pub SomeRoundIsStill : Type 0
+SomeRoundIsStill = (s : Sender) × (r : Receiver) × IsStillRound (λ (n : Bool). Unit {0}) rank_of 1 (pair_of s r) (pair_of s r)

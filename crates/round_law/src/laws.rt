@@ -3,7 +3,7 @@
 ghost use Rattle.std.specs.Prelude.{ℕ, Bool, IsTrue};
 ghost use Rattle.round_law.specs.Links.{DoneIsSettled, Receiver, Sender, StartsSound};
 ghost use Rattle.round_law.specs.Measure.{FramesFit, MovesLower, RunHasBound, StartIsLimited};
-ghost use Rattle.round_law.specs.Needed.{Clause, EachClauseIsNeeded};
+ghost use Rattle.round_law.specs.Needed.{Clause, EachClauseIsNeeded, SomeRoundIsStill};
 ghost use Rattle.round_law.specs.Network.{StillIsDone};
 ghost use Rattle.round_law.specs.Pipeline.{AllDoneIsSettled, JoinedComesThrough, Net, QuietIsDone, StartIsSound};
 ghost use Rattle.round_law.specs.Offers.{KindsAreFew};
@@ -82,4 +82,9 @@ pub fn frames_fit()
 /// at rest by all other clauses, of which neither is done.
 pub fn each_clause_is_needed()
     ensures { (clause : Clause) → EachClauseIsNeeded clause }
+{}
+
+/// A law: the premises of `still_is_done` can be met together, by two nodes that are done.
+pub fn some_round_is_still()
+    ensures { SomeRoundIsStill }
 {}
