@@ -1,9 +1,9 @@
 -- What nodes have moved: it stays where they stand still, and what is ahead falls where it rises.
-use Rattle.std.proofs.Common.{ℕ, ◌+◌, ◌-◌, ◌<◌, ◌≤◌, ◌≡◌, length, ap, ap₂, subst, ◌∙◌, arith}
+use Rattle.std.proofs.Common.{ℕ, ◌+◌, ◌-◌, ◌<◌, ◌≤◌, ◌≡◌, length, ap, ap₂, subst, ◌∙◌, arith, ⊎_elim}
 use Rattle.std.specs.List.{sum_by}
 use Rattle.round_law.specs.Links.{Sender, Receiver, new_sender, new_receiver}
 use Rattle.round_law.specs.Waits.{Node, in_at, out_at}
-use Rattle.round_law.specs.Rows.{sent_by, taken_by, moved, SenderStays, ReceiverStays, StillCounts}
+use Rattle.round_law.specs.Rows.{sent_by, taken_by, moved, SenderStays, ReceiverStays, StillCounts, NoneLowers, Rests, MovedRow, IdleRow, DoneRow}
 use Rattle.round_law.specs.Pipeline.{Net, Place, no_node, node_of, IsIn}
 use Rattle.round_law.specs.Pipeline.Place.{Parser, Grouper, Processor, Merge}
 use Rattle.round_law.specs.Measure.{most_moved, all_most, all_moved, SomeMoves, MovesLower}
@@ -28,6 +28,17 @@ still_counts before after still =
     let ins : sum_by taken_by after.ins ≡ sum_by taken_by before.ins =
     sum_same taken_by (new_receiver 0) before.ins after.ins still.in_count (λ j less. taken_same (in_at before j) (in_at after j) (still.ins j less)) in
     omega arith
+
+pub none_lowers : (credits : ℕ) (before after : Node) → NoneLowers credits before after
+none_lowers credits before after answers =
+    ⊎_elim
+    (λ (row : MovedRow before after). let up : moved before < moved after = row.rises in omega arith)
+    (λ (rests : Rests credits before after).
+    ⊎_elim
+    (λ (row : IdleRow credits before after). let same : moved after ≡ moved before = still_counts before after row.still in omega arith)
+    (λ (row : DoneRow before after). let same : moved after ≡ moved before = still_counts before after row.still in omega arith)
+    rests)
+    answers
 
 all_rises : (before after : Net) → SomeMoves before after → all_moved before < all_moved after
 all_rises before after moves = by_place moves.some_rises.0 moves.some_rises.1 moves.some_rises.2

@@ -2,8 +2,8 @@
 use Rattle.std.proofs.Common.{ℕ, ◌<◌, ◌≤◌, ◌≡◌, true, false, [], length, refl, ap, subst, ⊎_elim, arith}
 use Rattle.std.specs.Prelude.{IsTrue}
 use Rattle.std.proofs.lemmas.Bool.{cases_Bool, both_ways}
-use Rattle.round_law.specs.Links.{Sender, Receiver, new_receiver, has_finish, HasSentAll, HasTakenAll}
-use Rattle.round_law.specs.Waits.{Node, in_at, out_at, PipeEnd, NoneWaits, WantsCredit, Waits, IsIdle, IsDone}
+use Rattle.round_law.specs.Links.{new_sender, Sender, Receiver, new_receiver, has_finish, HasSentAll, HasTakenAll}
+use Rattle.round_law.specs.Waits.{Node, in_at, out_at, PipeEnd, NoneWaits, WantsCredit, Waits, IsIdle, IsDone, DoneWaitsOnNothing}
 use Rattle.round_law.specs.Waits.PipeEnd.{DataOut, CreditOut, DataIn, CreditIn}
 use Rattle.round_law.proofs.Ends.{Meets, IsClear, owes_within, finished_is_clear, clear_has_none_left, clear_has_all, clear_wants_none}
 
@@ -86,3 +86,20 @@ module _ (credits : ℕ) (before after : Node) (ins : (j : ℕ) → j < length a
 pub takes_finish : (credits : ℕ) (sb sa : Sender) (rb ra : Receiver) → Meets credits sb sa rb ra → IsClear rb ra → HasSentAll sa → IsTrue (has_finish ra.given)
 takes_finish credits sb sa rb ra meets clear sent =
     subst (λ frames. IsTrue (has_finish frames)) (clear_has_all credits sb sa rb ra meets clear sent.left) sent.finish
+
+-- who is done waits on nothing
+pub done_waits_on_nothing : (credits : ℕ) (node : Node) → DoneWaitsOnNothing credits node
+done_waits_on_nothing credits node some done (DataOut k) (less, left) =
+    let none : length (out_at node k).left ≡ 0 = ap length (done.outs k new_sender less).left in
+    omega arith
+done_waits_on_nothing credits node some done (CreditOut k) (less, wants) =
+    let none : (out_at node k).held ≡ 0 = (done.outs k new_sender less).held in
+    ⊎_elim
+    (λ (w : (0 < (out_at node k).waiting) × ((out_at node k).held ≡ credits)). let e : (out_at node k).held ≡ credits = w.1 in absurd (omega arith))
+    (λ (w : IsTrue (has_finish (out_at node k).offered) × (0 < (out_at node k).held)). let e : 0 < (out_at node k).held = w.1 in absurd (omega arith))
+    wants
+done_waits_on_nothing credits node some done (DataIn j) (less, open_yet, free) =
+    both_ways (has_finish (in_at node j).given) open_yet (done.ins j (new_receiver 0) less).finish
+done_waits_on_nothing credits node some done (CreditIn j) (less, owes) =
+    let none : (in_at node j).owed ≡ 0 = (done.ins j (new_receiver 0) less).owed in
+    omega arith

@@ -86,6 +86,14 @@ pub record DoneRow (before after : Node) : Type 0 where
 abbrev pub Rests : (credits : ℕ) (before after : Node) → Type 0
 Rests credits before after = IdleRow credits before after ⊎ DoneRow before after
 
+-- moved, idle or done
+abbrev pub Answers : (credits : ℕ) (before after : Node) → Type 0
+Answers credits before after = MovedRow before after ⊎ Rests credits before after
+
 -- where a node stands still, the count of what it has moved does too
 abbrev pub StillCounts : (before after : Node) → Type 0
 StillCounts before after = StandsStill before after → moved after ≡ moved before
+
+-- and no answer lowers it
+abbrev pub NoneLowers : (credits : ℕ) (before after : Node) → Type 0
+NoneLowers credits before after = Answers credits before after → moved before ≤ moved after

@@ -59,3 +59,7 @@ pub record IsDone (node : Node) : Type 0 where
   pub ins : All HasTakenAll node.ins
   pub outs : All HasSentAll node.outs
   pub wrote : node.wrote_all ≡ true
+
+-- who is done waits on nothing
+abbrev pub DoneWaitsOnNothing : (credits : ℕ) → Node → Type 0
+DoneWaitsOnNothing credits node = 0 < credits → IsDone node → (end : PipeEnd) → ¬ Waits credits node end

@@ -7,8 +7,8 @@ ghost use Rattle.round_law.specs.Needed.{Clause, EachClauseIsNeeded, SomeRoundIs
 ghost use Rattle.round_law.specs.Network.{StillIsDone};
 ghost use Rattle.round_law.specs.Pipeline.{AllDoneIsSettled, JoinedComesThrough, Net, QuietIsDone, StartIsSound};
 ghost use Rattle.round_law.specs.Offers.{KindsAreFew};
-ghost use Rattle.round_law.specs.Rows.{StillCounts};
-ghost use Rattle.round_law.specs.Waits.{Node};
+ghost use Rattle.round_law.specs.Rows.{NoneLowers, StillCounts};
+ghost use Rattle.round_law.specs.Waits.{DoneWaitsOnNothing, Node};
 
 /// A law: a new link is sound, and joined where there is a credit.
 pub fn start_is_sound()
@@ -25,6 +25,11 @@ pub fn new_is_sound()
 /// A law: a link whose sender and receiver are done is settled.
 pub fn done_is_settled()
     ensures { (credits : ℕ) (s : Sender) (r : Receiver) → DoneIsSettled credits s r }
+{}
+
+/// A law: a node that is done waits on no end of a pipe, so that it is not idle.
+pub fn done_waits_on_nothing()
+    ensures { (credits : ℕ) (node : Node) → DoneWaitsOnNothing credits node }
 {}
 
 /// A law: in any network whose links raise a rank, a round after a look in which no node moved leaves
@@ -49,9 +54,10 @@ pub fn joined_comes_through()
     ensures { (credits : ℕ) (net : Net) → JoinedComesThrough credits net }
 {}
 
-/// A law: a node that stands still has moved as much as before.
+/// A law: a node that stands still has moved as much as before, and no answer lowers that count.
 pub fn still_counts()
-    ensures { (before after : Node) → StillCounts before after }
+    ensures stays { (before after : Node) → StillCounts before after }
+    ensures never_falls { (credits : ℕ) (before after : Node) → NoneLowers credits before after }
 {}
 
 /// A law: where a parser offers at most one Item and one Mark for each record, a grouper one head of a
