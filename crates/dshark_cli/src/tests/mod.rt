@@ -3,6 +3,7 @@
 mod captures;
 mod central;
 mod check;
+mod clocks;
 mod count;
 mod faults;
 mod harness;
