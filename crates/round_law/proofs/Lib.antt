@@ -9,3 +9,4 @@ pub mod Needed
 pub mod Offers
 pub mod Starts
 pub mod Finished
+pub mod Turns

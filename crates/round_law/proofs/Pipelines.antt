@@ -1,10 +1,10 @@
 -- The pipeline is a network: its links raise the rank parser, grouper, processor, merge.
 use Rattle.std.proofs.Common.{ℕ, ◌+◌, ◌-◌, ◌<◌, ◌≤◌, ◌≡◌, length, subst, ⊎_elim, arith}
 use Rattle.std.proofs.lemmas.Bool.{cases_lt}
-use Rattle.round_law.specs.Links.{AreJoined, IsSettled, new_sender, new_receiver}
+use Rattle.round_law.specs.Links.{Sender, Receiver, AreJoined, ComesThrough, IsSettled, new_sender, new_receiver}
 use Rattle.round_law.specs.Waits.{IsDone, in_at, out_at}
 use Rattle.round_law.specs.Network.{Leads, IsNetwork}
-use Rattle.round_law.specs.Pipeline.{Net, Place, parser_at, node_of, IsIn, IsShaped, EachNode, EachLink, IsSound, QuietIsDone, AllDoneIsSettled, JoinedComesThrough}
+use Rattle.round_law.specs.Pipeline.{Net, Place, parser_at, grouper_at, processor_at, node_of, IsIn, IsShaped, EachNode, EachLink, IsSound, QuietIsDone, AllDoneIsSettled, JoinedComesThrough}
 use Rattle.round_law.specs.Pipeline.Place.{Parser, Grouper, Processor, Merge}
 use Rattle.round_law.proofs.Ends.{done_is_settled}
 use Rattle.round_law.proofs.Rounds.{still_is_done}
@@ -134,10 +134,14 @@ module _ (credits : ℕ) (net : Net) (sound : IsSound credits net) (joined : Eac
 pub all_done_is_settled : (credits : ℕ) (net : Net) → AllDoneIsSettled credits net
 all_done_is_settled credits net sound joined done = all_settled credits net sound joined done
 
-pub joined_comes_through : (credits : ℕ) (net : Net) → JoinedComesThrough credits net
-joined_comes_through credits net joined = record {
-  to_grouper = λ p g hp hg. ((joined.to_grouper p g hp hg).ring, (joined.to_grouper p g hp hg).through);
-  to_merge = λ p hp. ((joined.to_merge p hp).ring, (joined.to_merge p hp).through);
-  to_processor = λ g q hg hq. ((joined.to_processor g q hg hq).ring, (joined.to_processor g q hg hq).through);
-  from_processor = λ q hq. ((joined.from_processor q hq).ring, (joined.from_processor q hq).through);
+-- what follows of the ends of a link follows of each link
+pub each_link_as : (R S : Sender → Receiver → Type 0) → ((s : Sender) (r : Receiver) → R s r → S s r) → (net : Net) → EachLink R net → EachLink S net
+each_link_as R S follows net each = record {
+  to_grouper = λ p g hp hg. follows (out_at (parser_at net p) g) (in_at (grouper_at net g) p) (each.to_grouper p g hp hg);
+  to_merge = λ p hp. follows (out_at (parser_at net p) (length net.groupers)) (in_at net.merge p) (each.to_merge p hp);
+  to_processor = λ g q hg hq. follows (out_at (grouper_at net g) q) (in_at (processor_at net q) g) (each.to_processor g q hg hq);
+  from_processor = λ q hq. follows (out_at (processor_at net q) 0) (in_at net.merge (length net.parsers + q)) (each.from_processor q hq);
 }
+
+pub joined_comes_through : (credits : ℕ) (net : Net) → JoinedComesThrough credits net
+joined_comes_through credits net joined = each_link_as (AreJoined credits) ComesThrough (λ s r ends. (ends.ring, ends.through)) net joined

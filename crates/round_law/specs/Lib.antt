@@ -6,3 +6,4 @@ pub mod Pipeline
 pub mod Measure
 pub mod Needed
 pub mod Offers
+pub mod Turns

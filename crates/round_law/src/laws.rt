@@ -8,6 +8,7 @@ ghost use Rattle.round_law.specs.Network.{StillIsDone};
 ghost use Rattle.round_law.specs.Pipeline.{AllDoneIsSettled, JoinedComesThrough, Net, QuietIsDone, StartIsSound};
 ghost use Rattle.round_law.specs.Offers.{KindsAreFew};
 ghost use Rattle.round_law.specs.Rows.{NoneLowers, StillCounts};
+ghost use Rattle.round_law.specs.Turns.{RoundBegins, RoundEnds, RoundGoesOn, RoundMoves, RoundRests};
 ghost use Rattle.round_law.specs.Waits.{DoneWaitsOnNothing, Node};
 
 /// A law: a new link is sound, and joined where there is a credit.
@@ -93,4 +94,14 @@ pub fn each_clause_is_needed()
 /// A law: the premises of `still_is_done` can be met together, by two nodes that are done.
 pub fn some_round_is_still()
     ensures { SomeRoundIsStill }
+{}
+
+/// Laws: a round goes through the nodes by their numbers. As long as each was idle or done, the others
+/// are as they were; at the end all were. Once one has moved, the count of no node falls any more.
+pub fn round_goes_on()
+    ensures begins { (credits : ℕ) (net : Net) → RoundBegins credits net }
+    ensures rests { (credits n : ℕ) (start now after : Net) → RoundRests credits n start now after }
+    ensures moves { (credits n : ℕ) (start now after : Net) → RoundMoves credits n start now after }
+    ensures goes_on { (credits n : ℕ) (start now after : Net) → RoundGoesOn credits n start now after }
+    ensures ends { (credits : ℕ) (start now : Net) → RoundEnds credits start now }
 {}

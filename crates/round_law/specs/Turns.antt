@@ -1,0 +1,57 @@
+-- Rounds as their turns, one after another, in the order of the nodes' numbers.
+use Rattle.std.specs.Prelude.{ℕ, ◌≡◌, ◌+◌, ◌<◌, ◌≤◌, length}
+use Rattle.round_law.specs.Waits.{Node}
+use Rattle.round_law.specs.Rows.{MovedRow, Rests, Answers}
+use Rattle.round_law.specs.Pipeline.{Net, Place, node_of, IsIn}
+use Rattle.round_law.specs.Pipeline.Place.{Parser, Grouper, Processor, Merge}
+use Rattle.round_law.specs.Measure.{SomeMoves}
+
+-- nodes are numbered parsers, groupers, processors, merge
+abbrev pub number_of : Net → Place → ℕ
+number_of net (Parser p) = p
+number_of net (Grouper g) = length net.parsers + g
+number_of net (Processor q) = length net.parsers + length net.groupers + q
+number_of net Merge = length net.parsers + length net.groupers + length net.processors
+
+abbrev pub node_count : Net → ℕ
+node_count net = length net.parsers + length net.groupers + length net.processors + 1
+
+-- the same numbers of nodes
+pub record IsAlike (before after : Net) : Type 0 where
+  pub parsers : length after.parsers ≡ length before.parsers
+  pub groupers : length after.groupers ≡ length before.groupers
+  pub processors : length after.processors ≡ length before.processors
+
+-- a turn of the node with this number: what the row says of it, and all other nodes are as before
+pub record IsTurn (Row : Node → Node → Type 0) (n : ℕ) (before after : Net) : Type 0 where
+  pub alike : IsAlike before after
+  pub answered : (place : Place) → IsIn before place → number_of before place ≡ n → Row (node_of before place) (node_of after place)
+  pub others : (place : Place) → IsIn before place → ¬ (number_of before place ≡ n) → node_of after place ≡ node_of before place
+
+-- in a round the first n nodes were idle or done, and the others had no turn yet
+pub record RestedSoFar (credits n : ℕ) (start now : Net) : Type 0 where
+  pub alike : IsAlike start now
+  pub rested : (place : Place) → IsIn start place → number_of start place < n → Rests credits (node_of start place) (node_of now place)
+  pub untouched : (place : Place) → IsIn start place → n ≤ number_of start place → node_of now place ≡ node_of start place
+
+-- ---- how a round goes on
+
+abbrev pub RoundBegins : (credits : ℕ) → Net → Type 0
+RoundBegins credits net = RestedSoFar credits 0 net net
+
+-- the next node was idle or done
+abbrev pub RoundRests : (credits n : ℕ) (start now after : Net) → Type 0
+RoundRests credits n start now after = RestedSoFar credits n start now → IsTurn (Rests credits) n now after → RestedSoFar credits (n + 1) start after
+
+-- the next node moved
+abbrev pub RoundMoves : (credits n : ℕ) (start now after : Net) → Type 0
+RoundMoves credits n start now after = n < node_count now → RestedSoFar credits n start now → IsTurn MovedRow n now after → SomeMoves start after
+
+-- a node has moved, and any node has its turn
+abbrev pub RoundGoesOn : (credits n : ℕ) (start now after : Net) → Type 0
+RoundGoesOn credits n start now after = SomeMoves start now → IsTurn (Answers credits) n now after → SomeMoves start after
+
+-- all nodes were idle or done
+abbrev pub RoundEnds : (credits : ℕ) (start now : Net) → Type 0
+RoundEnds credits start now =
+    RestedSoFar credits (node_count start) start now → (place : Place) → IsIn start place → Rests credits (node_of start place) (node_of now place)
