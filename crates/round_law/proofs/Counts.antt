@@ -44,34 +44,34 @@ all_rises : (before after : Net) → SomeMoves before after → all_moved before
 all_rises before after moves = by_place moves.some_rises.0 moves.some_rises.1 moves.some_rises.2
   where
     parsers : sum_by moved before.parsers ≤ sum_by moved after.parsers
-    parsers = sum_no_less moved no_node before.parsers after.parsers moves.parsers (λ p less. moves.none_falls (Parser p) less)
+    parsers = sum_no_less moved no_node before.parsers after.parsers moves.alike.parsers (λ p less. moves.none_falls (Parser p) less)
 
     groupers : sum_by moved before.groupers ≤ sum_by moved after.groupers
-    groupers = sum_no_less moved no_node before.groupers after.groupers moves.groupers (λ g less. moves.none_falls (Grouper g) less)
+    groupers = sum_no_less moved no_node before.groupers after.groupers moves.alike.groupers (λ g less. moves.none_falls (Grouper g) less)
 
     processors : sum_by moved before.processors ≤ sum_by moved after.processors
-    processors = sum_no_less moved no_node before.processors after.processors moves.processors (λ q less. moves.none_falls (Processor q) less)
+    processors = sum_no_less moved no_node before.processors after.processors moves.alike.processors (λ q less. moves.none_falls (Processor q) less)
 
     merge : moved before.merge ≤ moved after.merge
     merge = moves.none_falls Merge tt
 
     by_place : (place : Place) → IsIn before place → moved (node_of before place) < moved (node_of after place) → all_moved before < all_moved after
     by_place (Parser p) there up =
-        let more = sum_rises moved no_node before.parsers after.parsers moves.parsers (λ k less. moves.none_falls (Parser k) less) p there up in
+        let more = sum_rises moved no_node before.parsers after.parsers moves.alike.parsers (λ k less. moves.none_falls (Parser k) less) p there up in
         omega (arith, more, groupers, processors, merge)
     by_place (Grouper g) there up =
-        let more = sum_rises moved no_node before.groupers after.groupers moves.groupers (λ k less. moves.none_falls (Grouper k) less) g there up in
+        let more = sum_rises moved no_node before.groupers after.groupers moves.alike.groupers (λ k less. moves.none_falls (Grouper k) less) g there up in
         omega (arith, more, parsers, processors, merge)
     by_place (Processor q) there up =
-        let more = sum_rises moved no_node before.processors after.processors moves.processors (λ k less. moves.none_falls (Processor k) less) q there up in
+        let more = sum_rises moved no_node before.processors after.processors moves.alike.processors (λ k less. moves.none_falls (Processor k) less) q there up in
         omega (arith, more, parsers, groupers, merge)
     by_place Merge there up = omega (arith, up, parsers, groupers, processors)
 
 same_most : (captures : ℕ) (before after : Net) → SomeMoves before after → all_most captures after ≡ all_most captures before
 same_most captures before after moves =
-    ap (λ (n : ℕ). most_moved captures n (length after.groupers) (length after.processors)) moves.parsers
-    ∙ ap (λ (n : ℕ). most_moved captures (length before.parsers) n (length after.processors)) moves.groupers
-    ∙ ap (λ (n : ℕ). most_moved captures (length before.parsers) (length before.groupers) n) moves.processors
+    ap (λ (n : ℕ). most_moved captures n (length after.groupers) (length after.processors)) moves.alike.parsers
+    ∙ ap (λ (n : ℕ). most_moved captures (length before.parsers) n (length after.processors)) moves.alike.groupers
+    ∙ ap (λ (n : ℕ). most_moved captures (length before.parsers) (length before.groupers) n) moves.alike.processors
 
 falls : (most before after : ℕ) → before < after → after ≤ most → most + 1 - after < most + 1 - before
 falls most before after up within = omega arith

@@ -3,9 +3,9 @@ use Rattle.std.proofs.Common.{ℕ, ◌+◌, ◌-◌, ◌<◌, ◌≤◌, ◌≡�
 use Rattle.std.proofs.lemmas.Bool.{cases_lt, cases_eq}
 use Rattle.round_law.specs.Waits.{Node}
 use Rattle.round_law.specs.Rows.{moved, Rests}
-use Rattle.round_law.specs.Pipeline.{Net, Place, node_of, IsIn}
+use Rattle.round_law.specs.Pipeline.{Net, Place, node_of, IsIn, IsAlike}
 use Rattle.round_law.specs.Pipeline.Place.{Parser, Grouper, Processor, Merge}
-use Rattle.round_law.specs.Turns.{number_of, node_count, IsAlike, IsTurn, RoundBegins, RoundRests, RoundMoves, RoundGoesOn, RoundEnds}
+use Rattle.round_law.specs.Turns.{number_of, node_count, IsTurn, RoundBegins, RoundRests, RoundMoves, RoundGoesOn, RoundEnds}
 use Rattle.round_law.proofs.Counts.{none_lowers}
 
 -- ---- nets alike
@@ -92,9 +92,7 @@ round_rests credits n start now after so_far turn = record { alike = alike_in_tu
 
 pub round_goes_on : (credits n : ℕ) (start now after : Net) → RoundGoesOn credits n start now after
 round_goes_on credits n start now after moves turn = record {
-  parsers = turn.alike.parsers ∙ moves.parsers;
-  groupers = turn.alike.groupers ∙ moves.groupers;
-  processors = turn.alike.processors ∙ moves.processors;
+  alike = alike_in_turn start now after moves.alike turn.alike;
   none_falls = λ place there.
       let first : moved (node_of start place) ≤ moved (node_of now place) = moves.none_falls place there in
       let second : moved (node_of now place) ≤ moved (node_of after place) = keeps place (is_in place there) in
@@ -107,7 +105,7 @@ round_goes_on credits n start now after moves turn = record {
 }
   where
     is_in : (place : Place) → IsIn start place → IsIn now place
-    is_in = still_in start now (record { parsers = moves.parsers; groupers = moves.groupers; processors = moves.processors })
+    is_in = still_in start now moves.alike
 
     keeps : (place : Place) → IsIn now place → moved (node_of now place) ≤ moved (node_of after place)
     keeps place there =
@@ -120,9 +118,7 @@ round_goes_on credits n start now after moves turn = record {
 
 pub round_moves : (credits n : ℕ) (start now after : Net) → RoundMoves credits n start now after
 round_moves credits n start now after less so_far turn = record {
-  parsers = turn.alike.parsers ∙ so_far.alike.parsers;
-  groupers = turn.alike.groupers ∙ so_far.alike.groupers;
-  processors = turn.alike.processors ∙ so_far.alike.processors;
+  alike = alike_in_turn start now after so_far.alike turn.alike;
   none_falls = none_falls;
   some_rises = some_rises;
 }

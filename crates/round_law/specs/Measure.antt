@@ -4,7 +4,7 @@ use Rattle.std.specs.List.{sum_by}
 use Rattle.round_law.specs.Waits.{Node, out_at}
 use Rattle.round_law.specs.Rows.{moved, frames_beside, OffersFew}
 use Rattle.round_law.specs.Links.{ComesThrough}
-use Rattle.round_law.specs.Pipeline.{Net, Place, parser_at, grouper_at, processor_at, node_of, IsIn, EachNode, EachLink, IsSound, new_net}
+use Rattle.round_law.specs.Pipeline.{Net, Place, parser_at, grouper_at, processor_at, node_of, IsIn, IsAlike, EachNode, EachLink, IsSound, new_net}
 
 -- ---- the limits
 
@@ -117,9 +117,7 @@ RunHasBound captures credits net = IsSound credits net → EachLink ComesThrough
 
 -- no node's count falls, and some node's rises
 pub record SomeMoves (before after : Net) : Type 0 where
-  pub parsers : length after.parsers ≡ length before.parsers
-  pub groupers : length after.groupers ≡ length before.groupers
-  pub processors : length after.processors ≡ length before.processors
+  pub alike : IsAlike before after
   pub none_falls : (place : Place) → IsIn before place → moved (node_of before place) ≤ moved (node_of after place)
   pub some_rises : (place : Place) × IsIn before place × (moved (node_of before place) < moved (node_of after place))
 

@@ -41,6 +41,12 @@ IsIn net (Grouper g) = g < length net.groupers
 IsIn net (Processor q) = q < length net.processors
 IsIn net Merge = Unit {0}
 
+-- the same numbers of nodes
+pub record IsAlike (before after : Net) : Type 0 where
+  pub parsers : length after.parsers ≡ length before.parsers
+  pub groupers : length after.groupers ≡ length before.groupers
+  pub processors : length after.processors ≡ length before.processors
+
 -- a parser's links lead to the groupers and then to the merge, a grouper's to the processors, a processor's to the
 -- merge; a grouper's links in come from the parsers, a processor's from the groupers, and the merge's from the parsers
 -- and then from the processors

@@ -2,7 +2,7 @@
 use Rattle.std.specs.Prelude.{ℕ, ◌≡◌, ◌+◌, ◌<◌, ◌≤◌, length}
 use Rattle.round_law.specs.Waits.{Node}
 use Rattle.round_law.specs.Rows.{MovedRow, Rests, Answers}
-use Rattle.round_law.specs.Pipeline.{Net, Place, node_of, IsIn}
+use Rattle.round_law.specs.Pipeline.{Net, Place, node_of, IsIn, IsAlike}
 use Rattle.round_law.specs.Pipeline.Place.{Parser, Grouper, Processor, Merge}
 use Rattle.round_law.specs.Measure.{SomeMoves}
 
@@ -15,12 +15,6 @@ number_of net Merge = length net.parsers + length net.groupers + length net.proc
 
 abbrev pub node_count : Net → ℕ
 node_count net = length net.parsers + length net.groupers + length net.processors + 1
-
--- the same numbers of nodes
-pub record IsAlike (before after : Net) : Type 0 where
-  pub parsers : length after.parsers ≡ length before.parsers
-  pub groupers : length after.groupers ≡ length before.groupers
-  pub processors : length after.processors ≡ length before.processors
 
 -- a turn of the node with this number: what the row says of it, and all other nodes are as before
 pub record IsTurn (Row : Node → Node → Type 0) (n : ℕ) (before after : Net) : Type 0 where
