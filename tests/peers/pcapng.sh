@@ -107,17 +107,20 @@ made 'interfaces one after another' mergecap -F pcapng -a -I none "${all[@]}" "$
 editcap -F pcapng "$network/s1.pcap" "$room/first.pcapng" 2>/dev/null
 joined() { cat "$room/first.pcapng" "$network/s3.pcapng" "$room/first.pcapng" >"$1"; }
 made 'sections of both orders' joined
-# A file that ends inside a block, and after a section without one.
+# Files that end inside a block.
 size=$(wc -c <"$network/s3.pcapng")
 for less in 1 3 60 100 300; do
     shortened() { head -c $((size - less)) "$network/s3.pcapng" >"$1"; }
     made "s3.pcapng less $less bytes" shortened
 done
-# An unknown version, order bytes that are neither, and a block whose two lengths differ.
-damaged() { joined "$3" && printf "$1" | dd of="$3" bs=1 seek="$2" conv=notrunc status=none; }
+# Damage in the second section, whose section block has 52 bytes and whose two interface blocks have 56 each.
+damaged() { joined "$3" && printf "$1" | dd of="$3" bs=1 seek=$((at + $2)) conv=notrunc status=none; } # BYTES PLACE MADE
 at=$(wc -c <"$room/first.pcapng")
-made 'an unknown version' damaged '\0\2' $((at + 12))
-made 'order bytes that are neither' damaged '\1\1\1\1' $((at + 8))
+made 'order bytes that are neither' damaged '\1\1\1\1' 8
+made 'an unknown version' damaged '\0\2' 12
+made 'two lengths that differ' damaged '\0\0\1\0' 48
+made 'a packet of no interface' damaged '\0\0\0\7' 172
+made 'a packet that is longer than its block' damaged '\0\0\1\0' 184
 
 # Each capture of the network is an interface of one file.
 merged_job() {
