@@ -2,6 +2,9 @@
 use Rattle.std.proofs.Common.{ℕ, ◌+◌, ◌-◌, ◌*◌, ◌^◌, ◌<◌, ◌≤◌, ◌≡◌, ◌++◌, List, [], ◌∷◌, length, refl, ap, subst, ◌∙◌, ⊎_elim, arith, lit<, length-append}
 use Rattle.std.specs.List.{sum_by}
 use Rattle.std.proofs.lemmas.Nat.{mul-le}
+use Rattle.std.proofs.Math.Nat.{le_trans}
+use Rattle.std.proofs.lemmas.List.{get_or_default}
+use Rattle.std.specs.Prelude.{All}
 use Rattle.std.proofs.lemmas.Bool.{cases_lt}
 use Rattle.node_frames.specs.declared.frame.Frame.{Frame}
 use Rattle.node_frames.specs.declared.wire.Wire.{Wire}
@@ -9,14 +12,17 @@ use Rattle.node_frames.specs.Fields.{bytes_of}
 use Rattle.node_frames.specs.Table.{payload_of}
 use Rattle.node_frames.specs.Link.{Opens, SpellsFrom, framed, wire_of}
 use Rattle.node_frames.proofs.Bytes.{length-bytes_of}
-use Rattle.round_law.specs.Links.{Sender, Receiver, new_sender, new_receiver, IsSender, IsReceiver, IsGranted, ComesThrough}
+use Rattle.round_law.specs.Links.{IsCounted, Sender, Receiver, new_sender, new_receiver, IsSender, IsReceiver, IsGranted, ComesThrough}
 use Rattle.round_law.specs.Waits.{Node, in_at, out_at}
-use Rattle.round_law.specs.Rows.{sent_by, taken_by, moved, taken_up, frames_beside}
+use Rattle.round_law.specs.Rows.{AreCounted, sent_by, taken_by, moved, taken_up, frames_beside}
 use Rattle.round_law.specs.Pipeline.{Net, Place, no_node, parser_at, grouper_at, processor_at, node_of, IsIn, IsSound, EachLink}
 use Rattle.round_law.specs.Pipeline.Place.{Parser, Grouper, Processor, Merge}
-use Rattle.round_law.specs.Measure.{capture_records, capture_bytes, piece_bytes, frame_bytes, parser_frames, grouper_frames, processor_frames, most_sent, most_taken, parser_most, grouper_most, processor_most, merge_most, most_moved, all_most, all_moved, IsLimited, HasBound, RunHasBound, FramesFit}
+use Rattle.round_law.specs.Measure.{IsInLimits, capture_records, capture_bytes, piece_bytes, frame_bytes, parser_frames, grouper_frames, processor_frames, most_sent, most_taken, parser_most, grouper_most, processor_most, merge_most, most_moved, all_most, all_moved, IsLimited, HasBound, RunHasBound, FramesFit}
 use Rattle.round_law.proofs.Ends.{Later, later_frames, given_within}
 use Rattle.round_law.proofs.Sums.{sum_within, sum_of_none}
+
+counts : (n most : ℕ) → n ≤ most → most < 2 ^ 64 → n < 2 ^ 64
+counts n most within fit = omega arith
 
 -- ---- one link
 
@@ -55,14 +61,16 @@ record Taken (r : Receiver) (frames : ℕ) : Type 0 where
   given : length r.given ≤ frames
   taken : taken_by r ≤ (frame_bytes + 2) * frames
 
-taken_within : (credits : ℕ) (s : Sender) (r : Receiver) (frames : ℕ) → IsSender credits s → IsReceiver r → IsGranted r → ComesThrough s r
-    → length s.offered ≤ frames → Taken r frames
+taken_within : (credits : ℕ) (s : Sender) (r : Receiver) (frames : ℕ) → IsSender credits s → IsReceiver r → (IsCounted r.given → IsGranted r) → ComesThrough s r
+    → length s.offered ≤ frames → frames < 2 ^ 64 → Taken r frames
 unfolding frame_bytes
-taken_within credits s r frames sends takes granted joined few =
-    let later : Later s r joined.0 = later_frames credits s r joined.0 sends takes joined.1 in
-    let given : length r.given ≤ length s.offered = given_within s r joined.0 later in
+taken_within credits s r frames sends takes granted_if through few fit =
+    let later : Later s r through.0 = later_frames credits s r through.0 sends takes through.1 in
+    let given : length r.given ≤ length s.offered = given_within s r through.0 later in
+    let counted : IsCounted r.given = counts (length r.given) frames (le_trans given few) fit in
+    let granted : r.paid + r.owed ≡ length r.given = granted_if counted in
     let put = put_within credits s sends in
-    let got : length s.put ≡ length r.got + length joined.0 = ap length joined.1 ∙ length-append r.got joined.0 in
+    let got : length s.put ≡ length r.got + length through.0 = ap length through.1 ∙ length-append r.got through.0 in
     record { given = omega arith; taken = omega arith }
 
 -- ---- numbers
@@ -88,21 +96,67 @@ none_and records taken most none within = omega arith
 all_and_none : (records taken most : ℕ) → records ≤ most → taken ≡ 0 → records + taken ≤ most
 all_and_none records taken most within none = omega arith
 
+-- ---- the frames of a link fit
+
+twice_and : (taken most : ℕ) → taken ≤ most → 2 * taken + frames_beside ≤ 2 * most + 4097
+unfolding frames_beside
+twice_and taken most within = omega arith
+
+below : (n most end : ℕ) → n ≤ most → most < end → n < end
+below n most end within less = omega arith
+
+parser_fits : (captures : ℕ) → captures ≤ 64 → parser_frames captures ≤ 2 ^ 47 + 4097
+unfolding capture_records
+parser_fits captures few =
+    let records : captures * 2 ^ 40 ≤ 64 * 2 ^ 40 = mul-le captures (2 ^ 40) 64 (2 ^ 40) few (omega arith) in
+    let most : 2 * (captures * 2 ^ 40) + frames_beside ≤ 2 * (64 * 2 ^ 40) + 4097 = twice_and (captures * 2 ^ 40) (64 * 2 ^ 40) records in
+    most
+
+pub frames_fit : (captures parsers groupers : ℕ) → FramesFit captures parsers groupers
+frames_fit captures parsers groupers few_captures few_parsers few_groupers =
+    let first : parser_frames captures ≤ 2 ^ 47 + 4097 = parser_fits captures few_captures in
+    let taken : parsers * parser_frames captures ≤ 16 * (2 ^ 47 + 4097) = mul-le parsers (parser_frames captures) 16 (2 ^ 47 + 4097) few_parsers first in
+    let second : grouper_frames captures parsers ≤ 2 * (16 * (2 ^ 47 + 4097)) + 4097 = twice_and (parsers * parser_frames captures) (16 * (2 ^ 47 + 4097)) taken in
+    let more : groupers * grouper_frames captures parsers ≤ 16 * (2 * (16 * (2 ^ 47 + 4097)) + 4097) =
+    mul-le groupers (grouper_frames captures parsers) 16 (2 * (16 * (2 ^ 47 + 4097)) + 4097) few_groupers second in
+    let third : processor_frames captures parsers groupers ≤ 2 * (16 * (2 * (16 * (2 ^ 47 + 4097)) + 4097)) + 4097 =
+    twice_and (groupers * grouper_frames captures parsers) (16 * (2 * (16 * (2 ^ 47 + 4097)) + 4097)) more in (
+      below (parser_frames captures) (2 ^ 47 + 4097) (2 ^ 58) first (lit< tt),
+      below (grouper_frames captures parsers) (2 * (16 * (2 ^ 47 + 4097)) + 4097) (2 ^ 58) second (lit< tt),
+      below (processor_frames captures parsers groupers) (2 * (16 * (2 * (16 * (2 ^ 47 + 4097)) + 4097)) + 4097) (2 ^ 58) third (lit< tt),
+    )
+
 -- ---- the nodes of a pipeline
 
 abbrev given_count : Receiver → ℕ
 given_count r = length r.given
 
-module _ (captures credits : ℕ) (net : Net) (now : IsSound credits net) (through : EachLink ComesThrough net) (limited : IsLimited captures net) where
-  sender : (place : Place) → IsIn net place → (k : ℕ) → k < length (node_of net place).outs → IsSender credits (out_at (node_of net place) k)
-  sender place there k less = (now.ends place there).senders k new_sender less
+module _ (captures credits : ℕ) (net : Net) (limits : IsInLimits captures net) (now : IsSound credits net) (through : EachLink ComesThrough net) (limited : IsLimited captures net) where
+  fits : (parser_frames captures < 2 ^ 58) × (grouper_frames captures (length net.parsers) < 2 ^ 58) × (processor_frames captures (length net.parsers) (length net.groupers) < 2 ^ 58)
+  fits = frames_fit captures (length net.parsers) (length net.groupers) limits.few_captures limits.parsers limits.groupers
+
+  sender : (place : Place) → IsIn net place → (k frames : ℕ) → k < length (node_of net place).outs → length (out_at (node_of net place) k).offered ≤ frames → frames < 2 ^ 64
+      → IsSender credits (out_at (node_of net place) k)
+  sender place there k frames less few fit = (now.ends place there).senders k new_sender less (counts (length (out_at (node_of net place) k).offered) frames few fit)
 
   taken_at : (from : Place) (k : ℕ) (to : Place) (j frames : ℕ) → IsIn net from → IsIn net to → k < length (node_of net from).outs → j < length (node_of net to).ins
-      → ComesThrough (out_at (node_of net from) k) (in_at (node_of net to) j) → length (out_at (node_of net from) k).offered ≤ frames
+      → ComesThrough (out_at (node_of net from) k) (in_at (node_of net to) j) → length (out_at (node_of net from) k).offered ≤ frames → frames < 2 ^ 64
       → Taken (in_at (node_of net to) j) frames
-  taken_at from k to j frames hf ht out into joined few =
-      taken_within credits (out_at (node_of net from) k) (in_at (node_of net to) j) frames (sender from hf k out)
-      ((now.ends to ht).receivers j (new_receiver 0) into) ((now.orderly to ht).granted j (new_receiver 0) into) joined few
+  taken_at from k to j frames hf ht out into joined few fit =
+      taken_within credits (out_at (node_of net from) k) (in_at (node_of net to) j) frames (sender from hf k frames out few fit)
+      ((now.ends to ht).receivers j (new_receiver 0) into) ((now.orderly to ht).granted j (new_receiver 0) into) joined few fit
+
+  parser_fit : parser_frames captures < 2 ^ 64
+  parser_fit = let fit = fits.0 in omega arith
+
+  grouper_fit : grouper_frames captures (length net.parsers) < 2 ^ 64
+  grouper_fit = let fit = fits.1 in omega arith
+
+  processor_fit : processor_frames captures (length net.parsers) (length net.groupers) < 2 ^ 64
+  processor_fit = let fit = fits.2 in omega arith
+
+  merge_fit : parser_frames captures + processor_frames captures (length net.parsers) (length net.groupers) < 2 ^ 64
+  merge_fit = let first = fits.0 in let second = fits.2 in omega arith
 
   -- ---- what parsers offer
 
@@ -125,7 +179,7 @@ module _ (captures credits : ℕ) (net : Net) (now : IsSound credits net) (throu
       let count = now.shaped.grouper_ins g there in
       let from : j < length net.parsers = omega arith in
       let out : g < length (parser_at net j).outs = parser_link j g from (omega arith) in
-      taken_at (Parser j) g (Grouper g) j (parser_frames captures) from there out less (through.to_grouper j g from there) (parser_offers j g from out)
+      taken_at (Parser j) g (Grouper g) j (parser_frames captures) from there out less (through.to_grouper j g from there) (parser_offers j g from out) parser_fit
 
   grouper_offers : (g q : ℕ) → g < length net.groupers → q < length (grouper_at net g).outs
       → length (out_at (grouper_at net g) q).offered ≤ grouper_frames captures (length net.parsers)
@@ -149,7 +203,7 @@ module _ (captures credits : ℕ) (net : Net) (now : IsSound credits net) (throu
       let outs = now.shaped.grouper_outs j from in
       let out : q < length (grouper_at net j).outs = omega arith in
       taken_at (Grouper j) q (Processor q) j (grouper_frames captures (length net.parsers)) from there out less
-      (through.to_processor j q from there) (grouper_offers j q from out)
+      (through.to_processor j q from there) (grouper_offers j q from out) grouper_fit
 
   processor_offers : (q k : ℕ) → q < length net.processors → k < length (processor_at net q).outs
       → length (out_at (processor_at net q) k).offered ≤ processor_frames captures (length net.parsers) (length net.groupers)
@@ -174,7 +228,7 @@ module _ (captures credits : ℕ) (net : Net) (now : IsSound credits net) (throu
       let out : length net.groupers < length (parser_at net j).outs = parser_link j (length net.groupers) early (omega arith) in
       let few : length (out_at (parser_at net j) (length net.groupers)).offered ≤ parser_frames captures = parser_offers j (length net.groupers) early out in
       taken_at (Parser j) (length net.groupers) Merge j (parser_frames captures + processor_frames captures (length net.parsers) (length net.groupers)) early tt out less
-      (through.to_merge j early) (omega arith))
+      (through.to_merge j early) (omega arith) merge_fit)
       (λ (late : length net.parsers ≤ j).
       let within : j - length net.parsers < length net.processors = omega arith in
       let place : length net.parsers + (j - length net.parsers) ≡ j = omega arith in
@@ -186,17 +240,17 @@ module _ (captures credits : ℕ) (net : Net) (now : IsSound credits net) (throu
       subst (λ (n : ℕ). Taken (in_at net.merge n) (parser_frames captures + processor_frames captures (length net.parsers) (length net.groupers))) place
       (taken_at (Processor (j - length net.parsers)) 0 Merge (length net.parsers + (j - length net.parsers))
       (parser_frames captures + processor_frames captures (length net.parsers) (length net.groupers)) within tt out same
-      (through.from_processor (j - length net.parsers) within) (omega arith)))
+      (through.from_processor (j - length net.parsers) within) (omega arith) merge_fit))
       (cases_lt j (length net.parsers))
 
   -- ---- what each node has moved
 
   sent_at : (place : Place) (frames count : ℕ) → IsIn net place → length (node_of net place).outs ≡ count
-      → ((k : ℕ) → k < length (node_of net place).outs → length (out_at (node_of net place) k).offered ≤ frames)
+      → ((k : ℕ) → k < length (node_of net place).outs → length (out_at (node_of net place) k).offered ≤ frames) → frames < 2 ^ 64
       → sum_by sent_by (node_of net place).outs ≤ most_sent count frames
-  sent_at place frames count there outs few =
+  sent_at place frames count there outs few fit =
       sum_within sent_by new_sender ((frame_bytes + 1) * frames) count (node_of net place).outs outs
-      (λ k less. sent_within credits (out_at (node_of net place) k) frames (sender place there k less) (few k less))
+      (λ k less. sent_within credits (out_at (node_of net place) k) frames (sender place there k frames less (few k less) fit) (few k less))
 
   took_at : (place : Place) (frames count : ℕ) → length (node_of net place).ins ≡ count
       → ((j : ℕ) → j < length (node_of net place).ins → Taken (in_at (node_of net place) j) frames)
@@ -211,7 +265,7 @@ module _ (captures credits : ℕ) (net : Net) (now : IsSound credits net) (throu
       four_parts node.read node.records (sum_by sent_by node.outs) (sum_by taken_by node.ins)
       (captures * (capture_bytes + piece_bytes)) (captures * capture_records) (most_sent (length net.groupers + 1) (parser_frames captures))
       reads.read reads.records
-      (sent_at (Parser p) (parser_frames captures) (length net.groupers + 1) there (now.shaped.parser_outs p there) (λ k less. parser_offers p k there less))
+      (sent_at (Parser p) (parser_frames captures) (length net.groupers + 1) there (now.shaped.parser_outs p there) (λ k less. parser_offers p k there less) parser_fit)
       (sum_of_none taken_by (new_receiver 0) node.ins (now.shaped.parser_ins p there))
 
   grouper_moved : (g : ℕ) → g < length net.groupers → moved (grouper_at net g) ≤ grouper_most captures (length net.parsers) (length net.processors)
@@ -221,7 +275,7 @@ module _ (captures credits : ℕ) (net : Net) (now : IsSound credits net) (throu
       two_parts node.read node.records (sum_by sent_by node.outs) (sum_by taken_by node.ins)
       (most_sent (length net.processors) (grouper_frames captures (length net.parsers))) (most_taken (length net.parsers) (parser_frames captures))
       reads.read reads.records
-      (sent_at (Grouper g) (grouper_frames captures (length net.parsers)) (length net.processors) there (now.shaped.grouper_outs g there) (λ k less. grouper_offers g k there less))
+      (sent_at (Grouper g) (grouper_frames captures (length net.parsers)) (length net.processors) there (now.shaped.grouper_outs g there) (λ k less. grouper_offers g k there less) grouper_fit)
       (took_at (Grouper g) (parser_frames captures) (length net.parsers) (now.shaped.grouper_ins g there) (λ j less. grouper_takes g j there less))
 
   processor_moved : (q : ℕ) → q < length net.processors → moved (processor_at net q) ≤ processor_most captures (length net.parsers) (length net.groupers)
@@ -232,7 +286,7 @@ module _ (captures credits : ℕ) (net : Net) (now : IsSound credits net) (throu
       (most_sent 1 (processor_frames captures (length net.parsers) (length net.groupers)))
       (most_taken (length net.groupers) (grouper_frames captures (length net.parsers)))
       reads.read reads.records
-      (sent_at (Processor q) (processor_frames captures (length net.parsers) (length net.groupers)) 1 there (now.shaped.processor_outs q there) (λ k less. processor_offers q k there less))
+      (sent_at (Processor q) (processor_frames captures (length net.parsers) (length net.groupers)) 1 there (now.shaped.processor_outs q there) (λ k less. processor_offers q k there less) processor_fit)
       (took_at (Processor q) (grouper_frames captures (length net.parsers)) (length net.groupers) (now.shaped.processor_ins q there) (λ j less. processor_takes q j there less))
 
   merge_moved : moved net.merge ≤ merge_most captures (length net.parsers) (length net.groupers) (length net.processors)
@@ -257,43 +311,49 @@ module _ (captures credits : ℕ) (net : Net) (now : IsSound credits net) (throu
       (sum_within moved no_node (processor_most captures (length net.parsers) (length net.groupers)) (length net.processors) net.processors refl processor_moved)
       merge_moved
 
+  -- ---- all frames are counted
+
+  offered_counted : (place : Place) (frames : ℕ) → ((k : ℕ) → k < length (node_of net place).outs → length (out_at (node_of net place) k).offered ≤ frames) → frames < 2 ^ 64
+      → All (λ (s : Sender). IsCounted s.offered) (node_of net place).outs
+  offered_counted place frames few fit k d less =
+      subst (λ (s : Sender). IsCounted s.offered) (get_or_default (node_of net place).outs k new_sender d less)
+      (counts (length (out_at (node_of net place) k).offered) frames (few k less) fit)
+
+  given_counted : (place : Place) (frames : ℕ) → ((j : ℕ) → j < length (node_of net place).ins → Taken (in_at (node_of net place) j) frames) → frames < 2 ^ 64
+      → All (λ (r : Receiver). IsCounted r.given) (node_of net place).ins
+  given_counted place frames few fit j d less =
+      subst (λ (r : Receiver). IsCounted r.given) (get_or_default (node_of net place).ins j (new_receiver 0) d less)
+      (counts (length (in_at (node_of net place) j).given) frames (few j less).given fit)
+
+  none_in : {X : Type 0} (P : X → Type 0) (xs : List X) → length xs ≡ 0 → All P xs
+  none_in P xs none k d less = absurd (omega arith)
+
+  are_counted : (place : Place) → IsIn net place → AreCounted (node_of net place)
+  are_counted (Parser p) there = record {
+    offered = offered_counted (Parser p) (parser_frames captures) (λ k less. parser_offers p k there less) parser_fit;
+    given = none_in (λ (r : Receiver). IsCounted r.given) (parser_at net p).ins (now.shaped.parser_ins p there);
+  }
+  are_counted (Grouper g) there = record {
+    offered = offered_counted (Grouper g) (grouper_frames captures (length net.parsers)) (λ k less. grouper_offers g k there less) grouper_fit;
+    given = given_counted (Grouper g) (parser_frames captures) (λ j less. grouper_takes g j there less) parser_fit;
+  }
+  are_counted (Processor q) there = record {
+    offered = offered_counted (Processor q) (processor_frames captures (length net.parsers) (length net.groupers)) (λ k less. processor_offers q k there less) processor_fit;
+    given = given_counted (Processor q) (grouper_frames captures (length net.parsers)) (λ j less. processor_takes q j there less) grouper_fit;
+  }
+  are_counted Merge there = record {
+    offered = none_in (λ (s : Sender). IsCounted s.offered) net.merge.outs now.shaped.merge_outs;
+    given = given_counted Merge (parser_frames captures + processor_frames captures (length net.parsers) (length net.groupers)) merge_takes merge_fit;
+  }
+
   has_bound : HasBound captures net
   has_bound = record {
     moved = all_within;
     parser_links = λ p k there less. parser_offers p k there (parser_link p k there less);
     grouper_links = λ g q there less. let count = now.shaped.grouper_outs g there in grouper_offers g q there (omega arith);
     processor_links = λ q there. let count = now.shaped.processor_outs q there in processor_offers q 0 there (omega arith);
+    counted = are_counted;
   }
 
 pub run_has_bound : (captures credits : ℕ) (net : Net) → RunHasBound captures credits net
-run_has_bound captures credits net now through limited = has_bound captures credits net now through limited
-
--- ---- the frames of a link fit
-
-twice_and : (taken most : ℕ) → taken ≤ most → 2 * taken + frames_beside ≤ 2 * most + 4096
-unfolding frames_beside
-twice_and taken most within = omega arith
-
-below : (n most end : ℕ) → n ≤ most → most < end → n < end
-below n most end within less = omega arith
-
-parser_fits : (captures : ℕ) → captures ≤ 64 → parser_frames captures ≤ 2 ^ 47 + 4096
-unfolding capture_records
-parser_fits captures few =
-    let records : captures * 2 ^ 40 ≤ 64 * 2 ^ 40 = mul-le captures (2 ^ 40) 64 (2 ^ 40) few (omega arith) in
-    let most : 2 * (captures * 2 ^ 40) + frames_beside ≤ 2 * (64 * 2 ^ 40) + 4096 = twice_and (captures * 2 ^ 40) (64 * 2 ^ 40) records in
-    most
-
-pub frames_fit : (captures parsers groupers : ℕ) → FramesFit captures parsers groupers
-frames_fit captures parsers groupers few_captures few_parsers few_groupers =
-    let first : parser_frames captures ≤ 2 ^ 47 + 4096 = parser_fits captures few_captures in
-    let taken : parsers * parser_frames captures ≤ 16 * (2 ^ 47 + 4096) = mul-le parsers (parser_frames captures) 16 (2 ^ 47 + 4096) few_parsers first in
-    let second : grouper_frames captures parsers ≤ 2 * (16 * (2 ^ 47 + 4096)) + 4096 = twice_and (parsers * parser_frames captures) (16 * (2 ^ 47 + 4096)) taken in
-    let more : groupers * grouper_frames captures parsers ≤ 16 * (2 * (16 * (2 ^ 47 + 4096)) + 4096) =
-    mul-le groupers (grouper_frames captures parsers) 16 (2 * (16 * (2 ^ 47 + 4096)) + 4096) few_groupers second in
-    let third : processor_frames captures parsers groupers ≤ 2 * (16 * (2 * (16 * (2 ^ 47 + 4096)) + 4096)) + 4096 =
-    twice_and (groupers * grouper_frames captures parsers) (16 * (2 * (16 * (2 ^ 47 + 4096)) + 4096)) more in (
-      below (parser_frames captures) (2 ^ 47 + 4096) (2 ^ 58) first (lit< tt),
-      below (grouper_frames captures parsers) (2 * (16 * (2 ^ 47 + 4096)) + 4096) (2 ^ 58) second (lit< tt),
-      below (processor_frames captures parsers groupers) (2 * (16 * (2 * (16 * (2 ^ 47 + 4096)) + 4096)) + 4096) (2 ^ 58) third (lit< tt),
-    )
+run_has_bound captures credits net limits now through limited = has_bound captures credits net limits now through limited

@@ -9,7 +9,7 @@ use Rattle.node_frames.specs.Table.{payload_of}
 use Rattle.node_frames.specs.Link.{SpellsAll, SpellsFrom, framed, wire_of, carried}
 use Rattle.node_frames.proofs.Bytes.{length-bytes_of}
 use Rattle.node_frames.proofs.Links.{bytes_come_after, two_readings_are_one}
-use Rattle.round_law.specs.Links.{Sender, Receiver, ring_bytes, is_finish, has_finish, FinishIsLast, OpensNoFrame, IsSender, IsReceiver, IsGranted, HasSentAll, AreJoined, StartsSound, DoneIsSettled}
+use Rattle.round_law.specs.Links.{Sender, Receiver, ring_bytes, is_finish, has_finish, FinishIsLast, OpensNoFrame, IsSender, IsReceiver, IsGranted, HasSentAll, AreJoined, StartsSound, DoneIsSettled, OwesWithin}
 use Rattle.round_law.specs.Waits.{WantsCredit}
 use Rattle.round_law.specs.Rows.{SenderStays, ReceiverStays}
 
@@ -115,8 +115,8 @@ module _ (credits : ℕ) (sb sa : Sender) (rb ra : Receiver) (meets : Meets cred
       (meets.out.put ∙ meets.joined.through ∙ ap (λ (bytes : List ℕ). bytes ++ meets.joined.ring) (sym meets.into.got))
 
   -- a receiver never owes more credits than its ring has room for
-  pub owes_within : ra.owed ≤ rb.slots
-  owes_within =
+  pub owes_few : ra.owed ≤ rb.slots
+  owes_few =
       let within : length ra.given ≤ length sa.offered = given_within sa ra meets.joined.ring later in
       let counted = meets.sends.counted in
       let held = meets.sends.within in
@@ -212,9 +212,9 @@ start_is_sound credits = record {
 }
 
 pub done_is_settled : (credits : ℕ) (s : Sender) (r : Receiver) → DoneIsSettled credits s r
-done_is_settled credits s r sends last takes granted joined sent taken =
-    let later : Later s r joined.ring = later_frames credits s r joined.ring sends takes joined.through in
-    let none = finish_leaves_none s r joined.ring later last taken.finish in
+done_is_settled credits s r sends last takes granted through sent taken =
+    let later : Later s r through.0 = later_frames credits s r through.0 sends takes through.1 in
+    let none = finish_leaves_none s r through.0 later last taken.finish in
     let count : length r.given ≡ length s.offered = ap length none.0 in
     let counted = sends.counted in
     let held = sent.held in
@@ -222,9 +222,19 @@ done_is_settled credits s r sends last takes granted joined sent taken =
     record {
       taken = none.0;
       left = sent.left;
-      ring = sym (joined.through ∙ ap (λ (more : List ℕ). r.got ++ more) none.2 ∙ append-nil r.got);
+      ring = sym (through.1 ∙ ap (λ (more : List ℕ). r.got ++ more) none.2 ∙ append-nil r.got);
       box = none.1;
       owed = taken.owed;
       credits = omega arith;
       held = sent.held;
     }
+
+pub owes_within : (credits : ℕ) (s : Sender) (r : Receiver) → OwesWithin credits s r
+owes_within credits s r sends takes granted joined =
+    let later : Later s r joined.ring = later_frames credits s r joined.ring sends takes joined.through in
+    let within : length r.given ≤ length s.offered = given_within s r joined.ring later in
+    let counted = sends.counted in
+    let held = sends.within in
+    let coins = joined.coins in
+    let slots = joined.slots in
+    (omega arith, omega arith)

@@ -10,9 +10,9 @@ use Rattle.node_frames.specs.declared.wire.Wire.{Wire}
 use Rattle.node_frames.specs.Fields.{bytes_of}
 use Rattle.node_frames.specs.Link.{Opens, SpellsAll, framed, wire_of}
 use Rattle.node_frames.proofs.Bytes.{length-bytes_of}
-use Rattle.round_law.specs.Links.{Sender, Receiver, ring_bytes, FinishIsLast, IsSender, IsReceiver, IsGranted, HasSentAll, HasTakenAll, AreJoined}
+use Rattle.round_law.specs.Links.{IsCounted, Sender, Receiver, ring_bytes, FinishIsLast, IsSender, IsReceiver, IsGranted, HasSentAll, HasTakenAll, AreJoined}
 use Rattle.round_law.specs.Waits.{IsDone}
-use Rattle.round_law.specs.Rows.{IsOrderly, HasSoundEnds, OffersFew, StandsStill, frames_beside}
+use Rattle.round_law.specs.Rows.{AreCounted, IsOrderly, HasSoundEnds, OffersFew, StandsStill, frames_beside}
 use Rattle.round_law.specs.Network.{Leads}
 use Rattle.round_law.specs.Needed.{pair_of, rank_of, SomeRoundIsStill}
 use Rattle.round_law.proofs.Needed.{all_one, all_none}
@@ -102,12 +102,12 @@ last = (λ has. refl, tt)
 
 orderly : (n : Bool) → IsOrderly (pair_of sent taken n)
 orderly false = record {
-  granted = all_none IsGranted;
+  granted = all_none (λ (r : Receiver). IsCounted r.given → IsGranted r);
   taken = all_none (λ (r : Receiver). FinishIsLast r.given);
   offered = all_one (λ (s : Sender). FinishIsLast s.offered) sent last;
 }
 orderly true = record {
-  granted = all_one IsGranted taken refl;
+  granted = all_one (λ (r : Receiver). IsCounted r.given → IsGranted r) taken (λ few. refl);
   taken = all_one (λ (r : Receiver). FinishIsLast r.given) taken last;
   offered = all_none (λ (s : Sender). FinishIsLast s.offered);
 }
@@ -121,13 +121,18 @@ few false = all_one (λ (s : Sender). length s.offered ≤ 2 * 0 + frames_beside
 few true = λ k d less. absurd (omega arith)
 
 sound : (n : Bool) → HasSoundEnds 1 (pair_of sent taken n)
-sound false = record { senders = all_one (IsSender 1) sent sent_sound; receivers = all_none IsReceiver }
-sound true = record { senders = all_none (IsSender 1); receivers = all_one IsReceiver taken spelled }
+sound false = record { senders = all_one (λ (s : Sender). IsCounted s.offered → IsSender 1 s) sent (λ few. sent_sound); receivers = all_none IsReceiver }
+sound true = record { senders = all_none (λ (s : Sender). IsCounted s.offered → IsSender 1 s); receivers = all_one IsReceiver taken spelled }
+
+counted : (n : Bool) → AreCounted (pair_of sent taken n)
+counted false = record { offered = all_one (λ (s : Sender). IsCounted s.offered) sent (lit< tt); given = all_none (λ (r : Receiver). IsCounted r.given) }
+counted true = record { offered = all_none (λ (s : Sender). IsCounted s.offered); given = all_one (λ (r : Receiver). IsCounted r.given) taken (lit< tt) }
 
 still : (n : Bool) → StandsStill (pair_of sent taken n) (pair_of sent taken n)
 still n = record {
   read = refl;
   records = refl;
+  wrote = refl;
   wrote_all = refl;
   in_count = refl;
   out_count = refl;
@@ -136,8 +141,8 @@ still n = record {
 }
 
 done : (n : Bool) → IsDone (pair_of sent taken n)
-done false = record { ins = all_none HasTakenAll; outs = all_one HasSentAll sent (record { finish = refl; left = refl; held = refl }); wrote = refl }
-done true = record { ins = all_one HasTakenAll taken (record { finish = refl; owed = refl }); outs = all_none HasSentAll; wrote = refl }
+done false = record { ins = all_none HasTakenAll; outs = all_one HasSentAll sent (record { finish = refl; left = refl; held = refl }); wrote_all = refl }
+done true = record { ins = all_one HasTakenAll taken (record { finish = refl; owed = refl }); outs = all_none HasSentAll; wrote_all = refl }
 
 pub some_round_is_still : SomeRoundIsStill
 some_round_is_still = (
@@ -148,6 +153,8 @@ some_round_is_still = (
     orderly = λ n there. orderly n;
     sound = λ n there. sound n;
     sound_after = λ n there. sound n;
+    counted = λ n there. counted n;
+    counted_after = λ n there. counted n;
     rests = λ n there. inr (record { still = still n; done = done n; orderly = orderly n; few = few n });
   },
 )

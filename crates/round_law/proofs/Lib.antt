@@ -10,3 +10,4 @@ pub mod Offers
 pub mod Starts
 pub mod Finished
 pub mod Turns
+pub mod Quiet

@@ -10,10 +10,10 @@ use Rattle.node_frames.specs.Fields.{bytes_of}
 use Rattle.node_frames.specs.Table.{payload_of}
 use Rattle.node_frames.specs.Link.{Opens, SpellsAll, framed}
 use Rattle.node_frames.proofs.Bytes.{length-bytes_of}
-use Rattle.round_law.specs.Links.{Sender, Receiver, ring_bytes, has_finish, FinishIsLast, OpensNoFrame, IsSender, IsReceiver, IsGranted, HasSentAll, HasTakenAll, AreJoined, new_sender, new_receiver}
+use Rattle.round_law.specs.Links.{IsCounted, Sender, Receiver, ring_bytes, has_finish, FinishIsLast, OpensNoFrame, IsSender, IsReceiver, IsGranted, HasSentAll, HasTakenAll, AreJoined, new_sender, new_receiver}
 use Rattle.round_law.specs.Waits.{in_at, PipeEnd, sure_at, NoneWaits, Waits, IsDone}
 use Rattle.round_law.specs.Waits.PipeEnd.{DataOut, CreditOut, DataIn, CreditIn}
-use Rattle.round_law.specs.Rows.{IsOrderly, HasSoundEnds, OffersFew, frames_beside}
+use Rattle.round_law.specs.Rows.{AreCounted, IsOrderly, HasSoundEnds, OffersFew, frames_beside}
 use Rattle.round_law.specs.Network.{Leads}
 use Rattle.round_law.specs.Needed.{Clause, clause_of, IsIdleBut, sending, receiving, pair_of, rank_of, IsStuckWithout, EachClauseIsNeeded}
 use Rattle.round_law.specs.Needed.Clause.{SomeEnd, NoRoom, NoCoins, NoItems, NoSlots, NoFrame}
@@ -43,6 +43,7 @@ record Sends (clause : Clause) (s : Sender) : Type 0 where
 record Takes (clause : Clause) (r : Receiver) : Type 0 where
   sound : IsReceiver r
   granted : IsGranted r
+  few : length r.given ≤ 1
   open_yet : has_finish r.given ≡ false
   last : FinishIsLast r.given
   items : ¬ (clause ≡ NoItems) → r.items ≡ 0
@@ -109,12 +110,12 @@ module _ (clause : Clause) (s : Sender) (r : Receiver) (joined : AreJoined 1 s r
 
   orderly : (n : Bool) → IsOrderly (pair_of s r n)
   orderly false = record {
-    granted = all_none IsGranted;
+    granted = all_none (λ (r : Receiver). IsCounted r.given → IsGranted r);
     taken = all_none (λ (r : Receiver). FinishIsLast r.given);
     offered = all_one (λ (s : Sender). FinishIsLast s.offered) s sends.last;
   }
   orderly true = record {
-    granted = all_one IsGranted r takes.granted;
+    granted = all_one (λ (r : Receiver). IsCounted r.given → IsGranted r) r (λ few. takes.granted);
     taken = all_one (λ (r : Receiver). FinishIsLast r.given) r takes.last;
     offered = all_none (λ (s : Sender). FinishIsLast s.offered);
   }
@@ -128,8 +129,18 @@ module _ (clause : Clause) (s : Sender) (r : Receiver) (joined : AreJoined 1 s r
   few true = λ k d less. absurd (omega arith)
 
   sound : (n : Bool) → HasSoundEnds 1 (pair_of s r n)
-  sound false = record { senders = all_one (IsSender 1) s sends.sound; receivers = all_none IsReceiver }
-  sound true = record { senders = all_none (IsSender 1); receivers = all_one IsReceiver r takes.sound }
+  sound false = record { senders = all_one (λ (s : Sender). IsCounted s.offered → IsSender 1 s) s (λ few. sends.sound); receivers = all_none IsReceiver }
+  sound true = record { senders = all_none (λ (s : Sender). IsCounted s.offered → IsSender 1 s); receivers = all_one IsReceiver r takes.sound }
+
+  counted : (n : Bool) → AreCounted (pair_of s r n)
+  counted false = record {
+    offered = all_one (λ (s : Sender). IsCounted s.offered) s (let few = sends.few in omega arith);
+    given = all_none (λ (r : Receiver). IsCounted r.given);
+  }
+  counted true = record {
+    offered = all_none (λ (s : Sender). IsCounted s.offered);
+    given = all_one (λ (r : Receiver). IsCounted r.given) r (let few = takes.few in omega arith);
+  }
 
   idle : (n : Bool) → IsIdleBut clause 1 (pair_of s r n)
   idle false = sender_idles clause s sends
@@ -145,6 +156,7 @@ module _ (clause : Clause) (s : Sender) (r : Receiver) (joined : AreJoined 1 s r
     orderly = orderly;
     few = few;
     sound = sound;
+    counted = counted;
     idle = idle;
     open_yet = open_yet;
   }
@@ -214,6 +226,7 @@ has_taken : (clause : Clause) (paid owed slots : ℕ) → paid + owed ≡ 1 → 
 has_taken clause paid owed slots granted none = record {
   sound = spelled;
   granted = granted;
+  few = omega arith;
   open_yet = refl;
   last = nothing_behind;
   items = λ kept. refl;
@@ -229,6 +242,7 @@ has_taken_none : (clause : Clause) (bytes : List ℕ) (items : ℕ) → (¬ (cla
 has_taken_none clause bytes items no_items no_frame = record {
   sound = refl;
   granted = refl;
+  few = omega arith;
   open_yet = refl;
   last = tt;
   items = no_items;

@@ -1,13 +1,11 @@
 -- The pipeline is a network: its links raise the rank parser, grouper, processor, merge.
-use Rattle.std.proofs.Common.{ℕ, ◌+◌, ◌-◌, ◌<◌, ◌≤◌, ◌≡◌, length, subst, ⊎_elim, arith}
+use Rattle.std.proofs.Common.{ℕ, ◌+◌, ◌-◌, ◌<◌, ◌≤◌, ◌≡◌, length, sym, subst, ⊎_elim, arith}
 use Rattle.std.proofs.lemmas.Bool.{cases_lt}
-use Rattle.round_law.specs.Links.{Sender, Receiver, AreJoined, ComesThrough, IsSettled, new_sender, new_receiver}
-use Rattle.round_law.specs.Waits.{IsDone, in_at, out_at}
+use Rattle.round_law.specs.Links.{Sender, Receiver, AreJoined, ComesThrough}
+use Rattle.round_law.specs.Waits.{in_at, out_at}
 use Rattle.round_law.specs.Network.{Leads, IsNetwork}
-use Rattle.round_law.specs.Pipeline.{Net, Place, parser_at, grouper_at, processor_at, node_of, IsIn, IsShaped, EachNode, EachLink, IsSound, QuietIsDone, AllDoneIsSettled, JoinedComesThrough}
+use Rattle.round_law.specs.Pipeline.{Net, Place, parser_at, grouper_at, processor_at, node_of, IsIn, IsAlike, IsShaped, EachLink, JoinedComesThrough}
 use Rattle.round_law.specs.Pipeline.Place.{Parser, Grouper, Processor, Merge}
-use Rattle.round_law.proofs.Ends.{done_is_settled}
-use Rattle.round_law.proofs.Rounds.{still_is_done}
 
 abbrev pub rank_of : Place → ℕ
 rank_of (Parser p) = 0
@@ -24,25 +22,25 @@ module _ (credits : ℕ) (net : Net) (shaped : IsShaped net) (linked : EachLink 
 
   -- ---- the four kinds of link
 
-  to_grouper : (p g : ℕ) → p < length net.parsers → g < length net.groupers → LeadsTo (Parser p) g (Grouper g) p
+  pub to_grouper : (p g : ℕ) → p < length net.parsers → g < length net.groupers → LeadsTo (Parser p) g (Grouper g) p
   to_grouper p g hp hg =
       let outs = shaped.parser_outs p hp in
       let ins = shaped.grouper_ins g hg in
       record { from = hp; out = omega arith; to = hg; into = omega arith; rises = omega arith; joined = linked.to_grouper p g hp hg }
 
-  to_merge : (p : ℕ) → p < length net.parsers → LeadsTo (Parser p) (length net.groupers) Merge p
+  pub to_merge : (p : ℕ) → p < length net.parsers → LeadsTo (Parser p) (length net.groupers) Merge p
   to_merge p hp =
       let outs = shaped.parser_outs p hp in
       let ins = shaped.merge_ins in
       record { from = hp; out = omega arith; to = tt; into = omega arith; rises = omega arith; joined = linked.to_merge p hp }
 
-  to_processor : (g q : ℕ) → g < length net.groupers → q < length net.processors → LeadsTo (Grouper g) q (Processor q) g
+  pub to_processor : (g q : ℕ) → g < length net.groupers → q < length net.processors → LeadsTo (Grouper g) q (Processor q) g
   to_processor g q hg hq =
       let outs = shaped.grouper_outs g hg in
       let ins = shaped.processor_ins q hq in
       record { from = hg; out = omega arith; to = hq; into = omega arith; rises = omega arith; joined = linked.to_processor g q hg hq }
 
-  from_processor : (q : ℕ) → q < length net.processors → LeadsTo (Processor q) 0 Merge (length net.parsers + q)
+  pub from_processor : (q : ℕ) → q < length net.processors → LeadsTo (Processor q) 0 Merge (length net.parsers + q)
   from_processor q hq =
       let outs = shaped.processor_outs q hq in
       let ins = shaped.merge_ins in
@@ -101,39 +99,6 @@ module _ (credits : ℕ) (net : Net) (shaped : IsShaped net) (linked : EachLink 
   pub is_network : IsNetwork (IsIn net) rank_of credits (node_of net)
   is_network = record { top = 4; below = below_top; outs = outs; ins = ins }
 
-pub quiet_is_done : (credits : ℕ) (before after : Net) → QuietIsDone credits before after
-quiet_is_done credits before after round =
-    still_is_done (IsIn before) rank_of credits (node_of before) (node_of after)
-    (record {
-      network = is_network credits before round.sound.shaped round.joined;
-      orderly = round.sound.orderly;
-      sound = round.sound.ends;
-      sound_after = round.ends;
-      rests = round.rests;
-    })
-
--- ---- a finished pipeline
-
-module _ (credits : ℕ) (net : Net) (sound : IsSound credits net) (joined : EachLink (AreJoined credits) net) (done : EachNode IsDone net) where
-  settled : (from : Place) (k : ℕ) (to : Place) (j : ℕ) → Leads (IsIn net) rank_of credits (node_of net) from k to j
-      → IsSettled (out_at (node_of net from) k) (in_at (node_of net to) j)
-  settled from k to j leads =
-      done_is_settled credits (out_at (node_of net from) k) (in_at (node_of net to) j)
-      ((sound.ends from leads.from).senders k new_sender leads.out) ((sound.orderly from leads.from).offered k new_sender leads.out)
-      ((sound.ends to leads.to).receivers j (new_receiver 0) leads.into) ((sound.orderly to leads.to).granted j (new_receiver 0) leads.into)
-      leads.joined ((done from leads.from).outs k new_sender leads.out) ((done to leads.to).ins j (new_receiver 0) leads.into)
-
-  all_settled : EachLink IsSettled net
-  all_settled = record {
-    to_grouper = λ p g hp hg. settled (Parser p) g (Grouper g) p (to_grouper credits net sound.shaped joined p g hp hg);
-    to_merge = λ p hp. settled (Parser p) (length net.groupers) Merge p (to_merge credits net sound.shaped joined p hp);
-    to_processor = λ g q hg hq. settled (Grouper g) q (Processor q) g (to_processor credits net sound.shaped joined g q hg hq);
-    from_processor = λ q hq. settled (Processor q) 0 Merge (length net.parsers + q) (from_processor credits net sound.shaped joined q hq);
-  }
-
-pub all_done_is_settled : (credits : ℕ) (net : Net) → AllDoneIsSettled credits net
-all_done_is_settled credits net sound joined done = all_settled credits net sound joined done
-
 -- what follows of the ends of a link follows of each link
 pub each_link_as : (R S : Sender → Receiver → Type 0) → ((s : Sender) (r : Receiver) → R s r → S s r) → (net : Net) → EachLink R net → EachLink S net
 each_link_as R S follows net each = record {
@@ -145,3 +110,14 @@ each_link_as R S follows net each = record {
 
 pub joined_comes_through : (credits : ℕ) (net : Net) → JoinedComesThrough credits net
 joined_comes_through credits net joined = each_link_as (AreJoined credits) ComesThrough (λ s r ends. (ends.ring, ends.through)) net joined
+
+-- ---- pipelines alike
+
+pub still_in : (a b : Net) → IsAlike a b → (place : Place) → IsIn a place → IsIn b place
+still_in a b alike (Parser p) there = let same = alike.parsers in omega arith
+still_in a b alike (Grouper g) there = let same = alike.groupers in omega arith
+still_in a b alike (Processor q) there = let same = alike.processors in omega arith
+still_in a b alike Merge there = tt
+
+pub alike_back : (a b : Net) → IsAlike a b → IsAlike b a
+alike_back a b alike = record { parsers = sym alike.parsers; groupers = sym alike.groupers; processors = sym alike.processors }

@@ -23,10 +23,10 @@ module _ {N : Type 0} (IsThere : N → Type 0) (rank : N → ℕ) (credits : ℕ
       let into : j < length (after m).ins = subst (λ (count : ℕ). j < count) (sym (still m leads.to).in_count) leads.into in
       record {
         joined = leads.joined;
-        sends = (round.sound_after n leads.from).senders k new_sender out;
+        sends = (round.sound_after n leads.from).senders k new_sender out ((round.counted_after n leads.from).offered k new_sender out);
         last = (orderly n leads.from).offered k new_sender out;
         takes = (round.sound_after m leads.to).receivers j (new_receiver 0) into;
-        granted = (orderly m leads.to).granted j (new_receiver 0) into;
+        granted = (orderly m leads.to).granted j (new_receiver 0) into ((round.counted_after m leads.to).given j (new_receiver 0) into);
         out = (still n leads.from).outs k leads.out;
         into = (still m leads.to).ins j leads.into;
       }
@@ -100,15 +100,15 @@ module _ {N : Type 0} (IsThere : N → Type 0) (rank : N → ℕ) (credits : ℕ
   -- ---- and before the round
 
   done_before : (n : N) → IsThere n → IsDone (before n)
-  done_before n there = record { ins = ins; outs = outs; wrote = sym (still n there).wrote_all ∙ (done_after n there).wrote }
+  done_before n there = record { ins = ins; outs = outs; wrote_all = sym (still n there).wrote_all ∙ (done_after n there).wrote_all }
     where
       ins : (j : ℕ) (d : Receiver) → j < length (before n).ins → HasTakenAll (Rattle.std.specs.Prelude.slice_index_or (before n).ins j d)
       ins j d less =
           let within : j < length (after n).ins = subst (λ (count : ℕ). j < count) (sym (still n there).in_count) less in
           let all : HasTakenAll (in_at (after n) j) = (done_after n there).ins j (new_receiver 0) within in
           let stays = (still n there).ins j less in
-          let granted_after = (orderly n there).granted j (new_receiver 0) within in
-          let granted = (round.orderly n there).granted j (new_receiver 0) less in
+          let granted_after = (orderly n there).granted j (new_receiver 0) within ((round.counted_after n there).given j (new_receiver 0) within) in
+          let granted = (round.orderly n there).granted j (new_receiver 0) less ((round.counted n there).given j (new_receiver 0) less) in
           let count : length (in_at (after n) j).given ≡ length (in_at (before n) j).given = ap length stays.given in
           let paid = stays.paid in
           let owed = all.owed in
@@ -125,7 +125,7 @@ module _ {N : Type 0} (IsThere : N → Type 0) (rank : N → ℕ) (credits : ℕ
           let other = outs_of n there k within in
           let done : HasSentAll (out_at (before n) k) =
           had_sent_all credits (out_at (before n) k) (out_at (after n) k) other.before other.after other.meets
-          ((round.sound n there).senders k new_sender less) ((round.orderly n there).offered k new_sender less) all in
+          ((round.sound n there).senders k new_sender less ((round.counted n there).offered k new_sender less)) ((round.orderly n there).offered k new_sender less) all in
           subst HasSentAll (get_or_default (before n).outs k new_sender d less) done
 
 pub still_is_done : {N : Type 0} (IsThere : N → Type 0) (rank : N → ℕ) (credits : ℕ) (before after : N → Node) → StillIsDone IsThere rank credits before after

@@ -5,7 +5,7 @@ use Rattle.std.proofs.lemmas.Bool.{cases_Bool, both_ways}
 use Rattle.round_law.specs.Links.{new_sender, Sender, Receiver, new_receiver, has_finish, HasSentAll, HasTakenAll}
 use Rattle.round_law.specs.Waits.{Node, in_at, out_at, PipeEnd, NoneWaits, WantsCredit, Waits, IsIdle, IsDone, DoneWaitsOnNothing}
 use Rattle.round_law.specs.Waits.PipeEnd.{DataOut, CreditOut, DataIn, CreditIn}
-use Rattle.round_law.proofs.Ends.{Meets, IsClear, owes_within, finished_is_clear, clear_has_none_left, clear_has_all, clear_wants_none}
+use Rattle.round_law.proofs.Ends.{Meets, IsClear, owes_few, finished_is_clear, clear_has_none_left, clear_has_all, clear_wants_none}
 
 -- the receiver at the other end of a link out
 pub record Out (credits : ℕ) (sb sa : Sender) : Type 0 where
@@ -33,7 +33,7 @@ module _ (credits : ℕ) (before after : Node) (ins : (j : ℕ) → j < length a
     owes_none : (j : ℕ) → j < length after.ins → (in_at after j).owed ≡ 0
     owes_none j less =
         let other : In credits (in_at before j) (in_at after j) = ins j less in
-        let within : (in_at after j).owed ≤ (in_at before j).slots = owes_within credits other.before other.after (in_at before j) (in_at after j) other.meets in
+        let within : (in_at after j).owed ≤ (in_at before j).slots = owes_few credits other.before other.after (in_at before j) (in_at after j) other.meets in
         let answered : 0 < (in_at after j).owed → (in_at before j).slots ≡ 0 = λ some. idle.answered (CreditIn j) (less, some) in
         by_owed (in_at after j).owed refl within answered
       where

@@ -2,7 +2,7 @@
 use Rattle.std.proofs.Common.{ℕ, ◌+◌, ◌*◌, ◌<◌, ◌≤◌, ◌≡◌, Bool, true, false, length, replicate, get_or, refl, sym, ap, subst, ◌∙◌, arith}
 use Rattle.std.specs.Prelude.{All}
 use Rattle.std.proofs.lemmas.List.{length-replicate, get_or-replicate}
-use Rattle.round_law.specs.Links.{Sender, Receiver, new_sender, new_receiver, FinishIsLast, IsSender, IsReceiver, IsGranted, AreJoined}
+use Rattle.round_law.specs.Links.{IsCounted, Sender, Receiver, new_sender, new_receiver, FinishIsLast, IsSender, IsReceiver, IsGranted, AreJoined}
 use Rattle.round_law.specs.Waits.{Node, in_at, out_at}
 use Rattle.round_law.specs.Rows.{IsOrderly, HasSoundEnds, OffersFew, taken_up, frames_beside}
 use Rattle.round_law.specs.Pipeline.{Place, no_node, parser_at, grouper_at, processor_at, node_of, IsIn, IsShaped, EachLink, new_node, new_net, StartIsSound}
@@ -23,14 +23,14 @@ of_each P n x h k d less = subst P (sym (at_each n x d k less)) h
 module _ (credits : ℕ) where
   orderly : (ins outs : ℕ) (wrote_all : Bool) → IsOrderly (new_node credits ins outs wrote_all)
   orderly ins outs wrote_all = record {
-    granted = of_each IsGranted ins (new_receiver credits) refl;
+    granted = of_each (λ (r : Receiver). IsCounted r.given → IsGranted r) ins (new_receiver credits) (λ few. refl);
     taken = of_each (λ (r : Receiver). FinishIsLast r.given) ins (new_receiver credits) tt;
     offered = of_each (λ (s : Sender). FinishIsLast s.offered) outs new_sender tt;
   }
 
   sound : (ins outs : ℕ) (wrote_all : Bool) → HasSoundEnds credits (new_node credits ins outs wrote_all)
   sound ins outs wrote_all = record {
-    senders = of_each (IsSender credits) outs new_sender (start_is_sound credits).sender;
+    senders = of_each (λ (s : Sender). IsCounted s.offered → IsSender credits s) outs new_sender (λ few. (start_is_sound credits).sender);
     receivers = of_each IsReceiver ins (new_receiver credits) refl;
   }
 

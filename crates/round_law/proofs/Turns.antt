@@ -7,17 +7,12 @@ use Rattle.round_law.specs.Pipeline.{Net, Place, node_of, IsIn, IsAlike}
 use Rattle.round_law.specs.Pipeline.Place.{Parser, Grouper, Processor, Merge}
 use Rattle.round_law.specs.Turns.{number_of, node_count, IsTurn, RoundBegins, RoundRests, RoundMoves, RoundGoesOn, RoundEnds}
 use Rattle.round_law.proofs.Counts.{none_lowers}
+use Rattle.round_law.proofs.Pipelines.{still_in, alike_back}
 
 -- ---- nets alike
 
 alike_in_turn : (a b c : Net) → IsAlike a b → IsAlike b c → IsAlike a c
 alike_in_turn a b c ab bc = record { parsers = bc.parsers ∙ ab.parsers; groupers = bc.groupers ∙ ab.groupers; processors = bc.processors ∙ ab.processors }
-
-still_in : (a b : Net) → IsAlike a b → (place : Place) → IsIn a place → IsIn b place
-still_in a b alike (Parser p) there = let same = alike.parsers in omega arith
-still_in a b alike (Grouper g) there = let same = alike.groupers in omega arith
-still_in a b alike (Processor q) there = let same = alike.processors in omega arith
-still_in a b alike Merge there = tt
 
 same_number : (a b : Net) → IsAlike a b → (place : Place) → number_of b place ≡ number_of a place
 same_number a b alike (Parser p) = refl
@@ -154,7 +149,7 @@ round_moves credits n start now after less so_far turn = record {
     some_rises : (place : Place) × IsIn start place × (moved (node_of start place) < moved (node_of after place))
     some_rises =
         let found = numbered now n less in
-        let there : IsIn start found.0 = still_in now start (record { parsers = sym so_far.alike.parsers; groupers = sym so_far.alike.groupers; processors = sym so_far.alike.processors }) found.0 found.1 in
+        let there : IsIn start found.0 = still_in now start (alike_back start now so_far.alike) found.0 found.1 in
         (found.0, there, rises found.0 there (sym (number found.0) ∙ found.2))
 
 pub round_ends : (credits : ℕ) (start now : Net) → RoundEnds credits start now

@@ -4,6 +4,7 @@ pub mod Rows
 pub mod Network
 pub mod Pipeline
 pub mod Measure
+pub mod Rounds
 pub mod Needed
 pub mod Offers
 pub mod Turns

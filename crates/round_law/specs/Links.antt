@@ -1,13 +1,14 @@
 -- The two ends of a link, as plain numbers and lists, and what is true of them after the other end was looked at.
-use Rattle.std.specs.Prelude.{ℕ, ◌≡◌, ◌+◌, ◌<◌, ◌≤◌, ◌++◌, ◌||◌, Bool, true, false, IsTrue, List, [], ◌∷◌, length}
+use Rattle.std.specs.Prelude.{ℕ, ◌≡◌, ◌+◌, ◌<◌, ◌≤◌, ◌^◌, ◌++◌, ◌||◌, Bool, true, false, IsTrue, List, [], ◌∷◌, length}
 use Rattle.node_frames.specs.declared.frame.Frame.{Frame}
 use Rattle.node_frames.specs.declared.frame.Frame.TheVariants.{Finish}
 use Rattle.node_frames.specs.declared.wire.Wire.{Wire}
 use Rattle.node_frames.specs.Link.{Opens, SpellsAll}
 
--- The end of a link that sends: the frames that were offered and how many wait to be, the bytes of these that went
--- into the data pipe and those left, the number held, the credits taken back, and of how many bytes it is sure: that
--- the data pipe takes them, that the credit pipe hands them over.
+-- The end of a link that sends: the frames that were offered and how many wait to be (the length of the queue behind
+-- them), the bytes of these that went into the data pipe and those left, the number held, the credits taken back (how
+-- many bytes came out of the credit pipe), and of how many bytes it is sure: that the data pipe takes them, that the
+-- credit pipe hands them over.
 pub record Sender : Type 0 where
   pub offered : List Frame
   pub waiting : ℕ
@@ -19,8 +20,8 @@ pub record Sender : Type 0 where
   pub coins : ℕ
 
 -- The end of a link that receives: the bytes that came out of the data pipe, the frames of these that were taken and
--- the bytes that wait in the box, the credits that were paid into the credit pipe and those granted and still owed,
--- and of how many bytes it is sure: that the data pipe hands them over, that the credit pipe takes them.
+-- the bytes that wait in the box, the credits paid (how many bytes went into the credit pipe) and those granted and
+-- still owed, and of how many bytes it is sure: that the data pipe hands them over, that the credit pipe takes them.
 pub record Receiver : Type 0 where
   pub got : List ℕ
   pub given : List Frame
@@ -51,6 +52,10 @@ FinishIsLast [] = Unit {0}
 FinishIsLast (frame ∷ frames) = (IsTrue (is_finish frame) → frames ≡ []) × FinishIsLast frames
 
 -- ---- one end
+
+-- frames that a u64 counts: what the ends of links promise of their numbers stands where it does
+abbrev pub IsCounted : List Frame → Type 0
+IsCounted frames = length frames < 2 ^ 64
 
 -- bytes that no whole frame opens
 abbrev pub OpensNoFrame : List ℕ → Type 0
@@ -127,5 +132,9 @@ pub record StartsSound (credits : ℕ) : Type 0 where
 -- a link whose ends are done is settled
 abbrev pub DoneIsSettled : (credits : ℕ) (s : Sender) (r : Receiver) → Type 0
 DoneIsSettled credits s r =
-    IsSender credits s → FinishIsLast s.offered → IsReceiver r → IsGranted r → AreJoined credits s r → HasSentAll s → HasTakenAll r
+    IsSender credits s → FinishIsLast s.offered → IsReceiver r → IsGranted r → ComesThrough s r → HasSentAll s → HasTakenAll r
     → IsSettled s r
+
+-- a receiver of joined ends never owes more credits than its ring has room for
+abbrev pub OwesWithin : (credits : ℕ) (s : Sender) (r : Receiver) → Type 0
+OwesWithin credits s r = IsSender credits s → IsReceiver r → IsGranted r → AreJoined credits s r → (r.owed ≤ r.slots) × (r.owed ≤ credits)

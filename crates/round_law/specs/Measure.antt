@@ -1,8 +1,8 @@
 -- What a run moves in all, and the most that it can move.
-use Rattle.std.specs.Prelude.{ℕ, ◌≡◌, ◌+◌, ◌-◌, ◌*◌, ◌^◌, ◌<◌, ◌≤◌, length, max}
+use Rattle.std.specs.Prelude.{ℕ, ◌≡◌, ◌+◌, ◌-◌, ◌*◌, ◌^◌, ◌<◌, ◌≤◌, length}
 use Rattle.std.specs.List.{sum_by}
 use Rattle.round_law.specs.Waits.{Node, out_at}
-use Rattle.round_law.specs.Rows.{moved, frames_beside, OffersFew}
+use Rattle.round_law.specs.Rows.{moved, frames_beside, OffersFew, AreCounted}
 use Rattle.round_law.specs.Links.{ComesThrough}
 use Rattle.round_law.specs.Pipeline.{Net, Place, parser_at, grouper_at, processor_at, node_of, IsIn, IsAlike, EachNode, EachLink, IsSound, new_net}
 
@@ -12,9 +12,10 @@ use Rattle.round_law.specs.Pipeline.{Net, Place, parser_at, grouper_at, processo
 unfoldable pub capture_records : ℕ
 capture_records = 2 ^ 40
 
--- the most bytes of a capture: 24 and records of at most 262,160 bytes, or blocks of at most 16,777,216 bytes
+-- more bytes than a reader of captures has taken when it waits for further ones: a libpcap file has at most 24 bytes
+-- and 2^40 records of at most 262,160 bytes, a pcapng file at most 2^36 blocks of at most 16,777,216 bytes
 unfoldable pub capture_bytes : ℕ
-capture_bytes = max (24 + 2 ^ 40 * 262160) (2 ^ 36 * 16777216)
+capture_bytes = 2 ^ 61
 
 -- the most bytes that a parser reads at once
 unfoldable pub piece_bytes : ℕ
@@ -33,6 +34,13 @@ pub record ReadsFew (captures : ℕ) (node : Node) : Type 0 where
 pub record ReadsNone (node : Node) : Type 0 where
   pub read : node.read ≡ 0
   pub records : node.records ≡ 0
+
+-- the limits of jobs and shapes
+pub record IsInLimits (captures : ℕ) (net : Net) : Type 0 where
+  pub few_captures : captures ≤ 64
+  pub parsers : length net.parsers ≤ 16
+  pub groupers : length net.groupers ≤ 16
+  pub processors : length net.processors ≤ 16
 
 -- ---- the most frames of a link
 
@@ -102,7 +110,7 @@ pub record IsLimited (captures : ℕ) (net : Net) : Type 0 where
   pub merge : ReadsNone net.merge
   pub few : EachNode OffersFew net
 
--- what has moved is at most the most, and no link had more frames than its most
+-- what has moved is at most the most, no link had more frames than its most, and so all of them are counted
 pub record HasBound (captures : ℕ) (net : Net) : Type 0 where
   pub moved : all_moved net ≤ all_most captures net
   pub parser_links : (p k : ℕ) → p < length net.parsers → k < length net.groupers + 1
@@ -111,9 +119,10 @@ pub record HasBound (captures : ℕ) (net : Net) : Type 0 where
       → length (out_at (grouper_at net g) q).offered ≤ grouper_frames captures (length net.parsers)
   pub processor_links : (q : ℕ) → q < length net.processors
       → length (out_at (processor_at net q) 0).offered ≤ processor_frames captures (length net.parsers) (length net.groupers)
+  pub counted : EachNode AreCounted net
 
 abbrev pub RunHasBound : (captures credits : ℕ) → Net → Type 0
-RunHasBound captures credits net = IsSound credits net → EachLink ComesThrough net → IsLimited captures net → HasBound captures net
+RunHasBound captures credits net = IsInLimits captures net → IsSound credits net → EachLink ComesThrough net → IsLimited captures net → HasBound captures net
 
 -- no node's count falls, and some node's rises
 pub record SomeMoves (before after : Net) : Type 0 where

@@ -3,7 +3,7 @@ use Rattle.std.specs.Prelude.{ℕ, ◌≡◌, ◌<◌, Bool, true, false, [], �
 use Rattle.round_law.specs.Links.{Sender, Receiver, has_finish, OpensNoFrame}
 use Rattle.round_law.specs.Waits.{Node, PipeEnd, sure_at, in_at, NoneWaits, Waits, IsDone}
 use Rattle.round_law.specs.Waits.PipeEnd.{DataOut, CreditOut, DataIn, CreditIn}
-use Rattle.round_law.specs.Rows.{IsOrderly, HasSoundEnds, OffersFew}
+use Rattle.round_law.specs.Rows.{IsOrderly, HasSoundEnds, OffersFew, AreCounted}
 use Rattle.round_law.specs.Network.{IsNetwork, IsStillRound}
 
 -- the clauses: it waits on some pipe end, it was sure of no byte of such an end of each of the four kinds, and the box
@@ -30,10 +30,10 @@ pub record IsIdleBut (clause : Clause) (credits : ℕ) (node : Node) : Type 0 wh
 
 -- a node with one link out, and one with one link in
 abbrev pub sending : Sender → Node
-sending s = record { read = 0; records = 0; wrote_all = true; ins = []; outs = s ∷ [] }
+sending s = record { read = 0; records = 0; wrote = 0; wrote_all = true; ins = []; outs = s ∷ [] }
 
 abbrev pub receiving : Receiver → Node
-receiving r = record { read = 0; records = 0; wrote_all = true; ins = r ∷ []; outs = [] }
+receiving r = record { read = 0; records = 0; wrote = 0; wrote_all = true; ins = r ∷ []; outs = [] }
 
 -- the two nodes, the one that sends at false
 abbrev pub pair_of : Sender → Receiver → Bool → Node
@@ -50,6 +50,7 @@ pub record IsStuckWithout (clause : Clause) (s : Sender) (r : Receiver) : Type 0
   pub orderly : (n : Bool) → IsOrderly (pair_of s r n)
   pub few : (n : Bool) → OffersFew (pair_of s r n)
   pub sound : (n : Bool) → HasSoundEnds 1 (pair_of s r n)
+  pub counted : (n : Bool) → AreCounted (pair_of s r n)
   pub idle : (n : Bool) → IsIdleBut clause 1 (pair_of s r n)
   pub open_yet : (n : Bool) → ¬ IsDone (pair_of s r n)
 

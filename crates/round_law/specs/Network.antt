@@ -2,7 +2,7 @@
 use Rattle.std.specs.Prelude.{ℕ, ◌<◌, length}
 use Rattle.round_law.specs.Links.{AreJoined}
 use Rattle.round_law.specs.Waits.{Node, in_at, out_at, IsDone}
-use Rattle.round_law.specs.Rows.{IsOrderly, HasSoundEnds, Rests}
+use Rattle.round_law.specs.Rows.{IsOrderly, HasSoundEnds, AreCounted, Rests}
 
 -- link out k of node n is link in j of node m, whose rank is higher, and its ends are joined
 pub record Leads {N : Type 0} (IsThere : N → Type 0) (rank : N → ℕ) (credits : ℕ) (node_at : N → Node) (n : N) (k : ℕ) (m : N) (j : ℕ) : Type 0 where
@@ -26,6 +26,8 @@ pub record IsStillRound {N : Type 0} (IsThere : N → Type 0) (rank : N → ℕ)
   pub orderly : (n : N) → IsThere n → IsOrderly (before n)
   pub sound : (n : N) → IsThere n → HasSoundEnds credits (before n)
   pub sound_after : (n : N) → IsThere n → HasSoundEnds credits (after n)
+  pub counted : (n : N) → IsThere n → AreCounted (before n)
+  pub counted_after : (n : N) → IsThere n → AreCounted (after n)
   pub rests : (n : N) → IsThere n → Rests credits (before n) (after n)
 
 -- then each node is done, and was before the round

@@ -1,8 +1,8 @@
 -- The pipeline: parsers, groupers, processors and one merge, with any numbers of each.
 use Rattle.std.specs.Prelude.{ℕ, ◌≡◌, ◌+◌, ◌<◌, Bool, true, false, List, [], length, replicate, slice_index_or}
-use Rattle.round_law.specs.Links.{Sender, Receiver, AreJoined, ComesThrough, IsSettled, new_sender, new_receiver}
-use Rattle.round_law.specs.Waits.{Node, in_at, out_at, IsDone}
-use Rattle.round_law.specs.Rows.{IsOrderly, HasSoundEnds, Rests}
+use Rattle.round_law.specs.Links.{Sender, Receiver, AreJoined, ComesThrough, new_sender, new_receiver}
+use Rattle.round_law.specs.Waits.{Node, in_at, out_at}
+use Rattle.round_law.specs.Rows.{IsOrderly, HasSoundEnds}
 
 -- its nodes, in the order of their numbers
 pub record Net : Type 0 where
@@ -18,7 +18,7 @@ pub data Place : Type 0 where
   Merge : Place
 
 abbrev pub no_node : Node
-no_node = record { read = 0; records = 0; wrote_all = true; ins = []; outs = [] }
+no_node = record { read = 0; records = 0; wrote = 0; wrote_all = true; ins = []; outs = [] }
 
 abbrev pub parser_at : Net → ℕ → Node
 parser_at net p = slice_index_or net.parsers p no_node
@@ -77,22 +77,6 @@ pub record IsSound (credits : ℕ) (net : Net) : Type 0 where
   pub orderly : EachNode IsOrderly net
   pub ends : EachNode (HasSoundEnds credits) net
 
--- a round that began with a look, and in which each node answered Idle or Done
-pub record IsQuietRound (credits : ℕ) (before after : Net) : Type 0 where
-  pub sound : IsSound credits before
-  pub joined : EachLink (AreJoined credits) before
-  pub ends : (place : Place) → IsIn before place → HasSoundEnds credits (node_of after place)
-  pub rests : (place : Place) → IsIn before place → Rests credits (node_of before place) (node_of after place)
-
--- then all nodes are done, and were before it
-abbrev pub QuietIsDone : (credits : ℕ) (before after : Net) → Type 0
-QuietIsDone credits before after = IsQuietRound credits before after
-    → (place : Place) → IsIn before place → IsDone (node_of before place) × IsDone (node_of after place)
-
--- where all nodes are done, each link is settled
-abbrev pub AllDoneIsSettled : (credits : ℕ) → Net → Type 0
-AllDoneIsSettled credits net = IsSound credits net → EachLink (AreJoined credits) net → EachNode IsDone net → EachLink IsSettled net
-
 -- of joined ends, what came out is the front of what was put in
 abbrev pub JoinedComesThrough : (credits : ℕ) → Net → Type 0
 JoinedComesThrough credits net = EachLink (AreJoined credits) net → EachLink ComesThrough net
@@ -102,7 +86,7 @@ JoinedComesThrough credits net = EachLink (AreJoined credits) net → EachLink C
 -- a node that has done nothing
 abbrev pub new_node : (credits ins outs : ℕ) (wrote_all : Bool) → Node
 new_node credits ins outs wrote_all =
-    record { read = 0; records = 0; wrote_all = wrote_all; ins = replicate ins (new_receiver credits); outs = replicate outs new_sender }
+    record { read = 0; records = 0; wrote = 0; wrote_all = wrote_all; ins = replicate ins (new_receiver credits); outs = replicate outs new_sender }
 
 abbrev pub new_net : (credits parsers groupers processors : ℕ) → Net
 new_net credits parsers groupers processors = record {

@@ -1,7 +1,7 @@
 -- What each turn of a node says, by its answer: the node as it was when the turn began, and as it is after it.
 use Rattle.std.specs.Prelude.{ℕ, ◌≡◌, ◌+◌, ◌*◌, ◌<◌, ◌≤◌, ◌⊎◌, length, All}
 use Rattle.std.specs.List.{sum_by}
-use Rattle.round_law.specs.Links.{Sender, Receiver, FinishIsLast, IsGranted, IsSender, IsReceiver}
+use Rattle.round_law.specs.Links.{Sender, Receiver, FinishIsLast, IsCounted, IsGranted, IsSender, IsReceiver}
 use Rattle.round_law.specs.Waits.{Node, in_at, out_at, IsIdle, IsDone}
 
 -- ---- what came and went
@@ -26,21 +26,26 @@ taken_up node = node.records + sum_by (λ (r : Receiver). length r.given) node.i
 
 -- every frame taken was granted, and nothing follows a Finish
 pub record IsOrderly (node : Node) : Type 0 where
-  pub granted : All IsGranted node.ins
+  pub granted : All (λ (r : Receiver). IsCounted r.given → IsGranted r) node.ins
   pub taken : All (λ (r : Receiver). FinishIsLast r.given) node.ins
   pub offered : All (λ (s : Sender). FinishIsLast s.offered) node.outs
 
 -- the frames that a node offers beside two for each record or frame that it has taken up
 unfoldable pub frames_beside : ℕ
-frames_beside = 4096
+frames_beside = 4097
 
 abbrev pub OffersFew : Node → Type 0
 OffersFew node = All (λ (s : Sender). length s.offered ≤ 2 * taken_up node + frames_beside) node.outs
 
 -- what its links promise
 pub record HasSoundEnds (credits : ℕ) (node : Node) : Type 0 where
-  pub senders : All (IsSender credits) node.outs
+  pub senders : All (λ (s : Sender). IsCounted s.offered → IsSender credits s) node.outs
   pub receivers : All IsReceiver node.ins
+
+-- the frames of its links are counted
+pub record AreCounted (node : Node) : Type 0 where
+  pub offered : All (λ (s : Sender). IsCounted s.offered) node.outs
+  pub given : All (λ (r : Receiver). IsCounted r.given) node.ins
 
 -- ---- a turn in which nothing moved
 
@@ -57,6 +62,7 @@ pub record ReceiverStays (r t : Receiver) : Type 0 where
 pub record StandsStill (before after : Node) : Type 0 where
   pub read : after.read ≡ before.read
   pub records : after.records ≡ before.records
+  pub wrote : after.wrote ≡ before.wrote
   pub wrote_all : after.wrote_all ≡ before.wrote_all
   pub in_count : length after.ins ≡ length before.ins
   pub out_count : length after.outs ≡ length before.outs

@@ -2,11 +2,12 @@
 use Rattle.std.specs.Prelude.{ℕ, ◌≡◌, ◌<◌, ◌⊎◌, Bool, true, false, IsTrue, List, length, slice_index_or, All}
 use Rattle.round_law.specs.Links.{Sender, Receiver, new_sender, new_receiver, has_finish, OpensNoFrame, HasSentAll, HasTakenAll}
 
--- A node: the bytes that it has read from its sources, the records that it has taken up, whether it has written all
--- its text (true where it writes none), and its ends of links.
+-- A node: the bytes that it has read from its sources, the records that it has taken up, the bytes that it has written
+-- to its sink, whether it has written all its text (true where it writes none), and its ends of links.
 pub record Node : Type 0 where
   pub read : ℕ
   pub records : ℕ
+  pub wrote : ℕ
   pub wrote_all : Bool
   pub ins : List Receiver
   pub outs : List Sender
@@ -58,7 +59,7 @@ pub record IsIdle (credits : ℕ) (before after : Node) : Type 0 where
 pub record IsDone (node : Node) : Type 0 where
   pub ins : All HasTakenAll node.ins
   pub outs : All HasSentAll node.outs
-  pub wrote : node.wrote_all ≡ true
+  pub wrote_all : node.wrote_all ≡ true
 
 -- who is done waits on nothing
 abbrev pub DoneWaitsOnNothing : (credits : ℕ) → Node → Type 0

@@ -1,11 +1,12 @@
 //! Laws about links and networks. Each is a call that does nothing.
 
 ghost use Rattle.std.specs.Prelude.{ℕ, Bool, IsTrue};
-ghost use Rattle.round_law.specs.Links.{DoneIsSettled, Receiver, Sender, StartsSound};
+ghost use Rattle.round_law.specs.Links.{DoneIsSettled, OwesWithin, Receiver, Sender, StartsSound};
 ghost use Rattle.round_law.specs.Measure.{FramesFit, MovesLower, RunHasBound, StartIsLimited};
 ghost use Rattle.round_law.specs.Needed.{Clause, EachClauseIsNeeded, SomeRoundIsStill};
 ghost use Rattle.round_law.specs.Network.{StillIsDone};
-ghost use Rattle.round_law.specs.Pipeline.{AllDoneIsSettled, JoinedComesThrough, Net, QuietIsDone, StartIsSound};
+ghost use Rattle.round_law.specs.Pipeline.{JoinedComesThrough, Net, StartIsSound};
+ghost use Rattle.round_law.specs.Rounds.{AllDoneIsSettled, QuietIsDone};
 ghost use Rattle.round_law.specs.Offers.{KindsAreFew};
 ghost use Rattle.round_law.specs.Rows.{NoneLowers, StillCounts};
 ghost use Rattle.round_law.specs.Turns.{RoundBegins, RoundEnds, RoundGoesOn, RoundMoves, RoundRests};
@@ -28,6 +29,12 @@ pub fn done_is_settled()
     ensures { (credits : ℕ) (s : Sender) (r : Receiver) → DoneIsSettled credits s r }
 {}
 
+/// A law: over joined ends a receiver owes no more credits than its credit pipe has room for, and so no
+/// more than there are.
+pub fn owes_within()
+    ensures { (credits : ℕ) (s : Sender) (r : Receiver) → OwesWithin credits s r }
+{}
+
 /// A law: a node that is done waits on no end of a pipe, so that it is not idle.
 pub fn done_waits_on_nothing()
     ensures { (credits : ℕ) (node : Node) → DoneWaitsOnNothing credits node }
@@ -42,12 +49,12 @@ pub fn still_is_done<N>()
 
 /// A law: the same of the pipeline, with any numbers of parsers, groupers and processors.
 pub fn quiet_is_done()
-    ensures { (credits : ℕ) (before after : Net) → QuietIsDone credits before after }
+    ensures { (captures credits : ℕ) (before after : Net) → QuietIsDone captures credits before after }
 {}
 
 /// A law: where all nodes of a pipeline are done, each of its links is settled.
 pub fn all_done_is_settled()
-    ensures { (credits : ℕ) (net : Net) → AllDoneIsSettled credits net }
+    ensures { (captures credits : ℕ) (net : Net) → AllDoneIsSettled captures credits net }
 {}
 
 /// A law: of joined ends, what came out is the front of what was put in.

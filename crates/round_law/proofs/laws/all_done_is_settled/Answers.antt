@@ -1,4 +1,4 @@
-use Rattle.round_law.proofs.Pipelines.{all_done_is_settled}
+use Rattle.round_law.proofs.Quiet.{all_done_is_settled}
 use Rattle.round_law.proofs.laws.all_done_is_settled.Goals as goal
 
 pub returns : goal.returns

@@ -1,4 +1,4 @@
-use Rattle.round_law.proofs.Pipelines.{quiet_is_done}
+use Rattle.round_law.proofs.Quiet.{quiet_is_done}
 use Rattle.round_law.proofs.laws.quiet_is_done.Goals as goal
 
 pub returns : goal.returns
