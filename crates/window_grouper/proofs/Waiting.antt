@@ -2,9 +2,10 @@
 use Rattle.std.proofs.Common.{ℕ, Bool, true, false, List, [], ◌∷◌, ◌++◌, ◌≡◌, ◌≤◌, ◌<◌, ◌+◌, Option, Some, None, refl, sym, ap, subst, ◌∙◌, arith, ⊎_elim, length, map, ◌⊎◌, inl, inr}
 use Rattle.std.specs.Prelude.{slice_get, is_some, set, get_or, IfSome, IfNone, IsSome, ◌↔◌}
 use Rattle.std.specs.BTreeMap.{insert_entry, is_at}
+use Rattle.std.specs.Global.{Box}
 use Rattle.std.specs.List.{AllByRecursion, list_any}
 use Rattle.std.specs.Map.{lookup, values_of}
-use Rattle.std.specs.Ordering.{MatchOrdering, is_eq}
+use Rattle.std.specs.Ordering.{MatchOrdering, is_eq, match_ordering}
 use Rattle.std.specs.declared.cmp.Ordering.{Ordering}
 use Rattle.std.specs.declared.cmp.Ordering.TheVariants.{Less, Equal, Greater}
 use Rattle.std.proofs.lemmas.Bool.{cases_Bool, both_ways, cases_lt, lt-ltb, le-ltb}
@@ -21,7 +22,7 @@ use Rattle.window_grouper.specs.Open.{Open}
 use Rattle.window_grouper.specs.Over.{BegunBy, EndsBefore, ReachesTo, FirstIsOver, FirstIsOpen}
 use Rattle.window_grouper.specs.Placing.{takes, single, grown, placed, HaveBegun}
 use Rattle.window_grouper.specs.Sorted.{DiffersFromAll, is_before, insert_by_stamp}
-use Rattle.window_grouper.specs.Waiting.{seen, IsTidy, IsKept}
+use Rattle.window_grouper.specs.Waiting.{opened, seen, IsTidy, IsKept}
 use Rattle.window_grouper.proofs.Covers.{not_before}
 use Rattle.window_grouper.proofs.Insertion.{in_order-insert}
 use Rattle.window_grouper.proofs.Passing.{at_time, upto_split, onward_split, upto-insert, onward-insert, differs_whole}
@@ -52,6 +53,43 @@ begun-placed window u s gs up h =
     (λ (yes : list_any (λ g. takes window g s) gs ≡ true). rw yes (grown_begun window u s gs h))
     (λ (no : list_any (λ g. takes window g s) gs ≡ false). rw no (pushed_begun u s (map (grown window s) gs) up (grown_begun window u s gs h)))
     (cases_Bool (list_any (λ g. takes window g s) gs))
+
+-- ---- boxes
+
+opened-insert : (k : Stamp) (b : Box Summary) (es : List (Stamp × Box Summary))
+    → opened (insert_entry stamp_cmp es k b) ≡ insert_entry stamp_cmp (opened es) k b.value
+opened-insert k b [] = refl
+opened-insert k b (e ∷ es) = by_rank (stamp_cmp k e.0) (opened-insert k b es) where
+  by_rank : (o : Ordering) → opened (insert_entry stamp_cmp es k b) ≡ insert_entry stamp_cmp (opened es) k b.value
+      → opened (match_ordering o ((k, b) ∷ e ∷ es) ((e.0, b) ∷ es) (e ∷ insert_entry stamp_cmp es k b))
+      ≡ match_ordering o ((k, b.value) ∷ opened (e ∷ es)) ((e.0, b.value) ∷ opened es) ((e.0, e.1.value) ∷ insert_entry stamp_cmp (opened es) k b.value)
+  by_rank Less h = refl
+  by_rank Equal h = refl
+  by_rank Greater h = ap (λ (hs : List (Stamp × Summary)). (e.0, e.1.value) ∷ hs) h
+
+-- a summary was put into the map in a box
+pub boxed : (es fs : List (Stamp × Box Summary)) (s : Summary) (b : Box Summary) → b.value ≡ s → fs ≡ insert_entry stamp_cmp es s.at b
+    → opened fs ≡ insert_entry stamp_cmp (opened es) s.at s
+boxed es fs s b e h =
+    ap opened h
+    ∙ opened-insert s.at b es
+    ∙ ap (λ (x : Summary). insert_entry stamp_cmp (opened es) s.at x) e
+
+pub opened-lookup : (at : Stamp) (es : List (Stamp × Box Summary))
+    → is_some (lookup (is_at (stamp_cmp at)) es) ≡ is_some (lookup (is_at (stamp_cmp at)) (opened es))
+opened-lookup at [] = refl
+opened-lookup at (e ∷ es) =
+    ⊎_elim
+    (λ (here : is_eq (stamp_cmp at e.0) ≡ true). rw here refl)
+    (λ (other : is_eq (stamp_cmp at e.0) ≡ false). rw other (opened-lookup at es))
+    (cases_Bool (is_eq (stamp_cmp at e.0)))
+
+pub opened-first : (es : List (Stamp × Box Summary)) (k : Stamp) (b : Box Summary) → slice_get es 0 ≡ Some (k, b)
+    → slice_get (opened es) 0 ≡ Some (k, b.value)
+opened-first [] k b h = absurd (cc)
+opened-first (e ∷ es) k b h =
+    let same : e ≡ (k, b) = cc in
+    ap (λ (x : Stamp × Box Summary). Some (x.0, x.1.value)) same
 
 -- ---- a summary comes to wait
 
@@ -208,14 +246,14 @@ kept_placed bound old new k s es fs e past same grows h =
     })
 
 -- the first entry was taken out
-pub popped : (r : Option (Stamp × Summary)) (es fs : List (Stamp × Summary)) (k : Stamp) (s : Summary) → IsSome r ↔ (0 < length es)
-    → IfSome r (λ p. es ≡ p ∷ fs) → slice_get es 0 ≡ Some (k, s) → es ≡ (k, s) ∷ fs
-popped None [] fs k s there taken at = absurd (cc)
-popped None (e ∷ es) fs k s there taken at = let some = there.1 (omega arith) in absurd (cc)
-popped (Some p) es fs k s there taken at =
-    let first : slice_get (p ∷ fs) 0 ≡ Some (k, s) = subst (λ (hs : List (Stamp × Summary)). slice_get hs 0 ≡ Some (k, s)) taken at in
-    let same : p ≡ (k, s) = cc in
-    taken ∙ ap (λ (x : Stamp × Summary). x ∷ fs) same
+pub popped : (r : Option (Stamp × Box Summary)) (es fs : List (Stamp × Box Summary)) (k : Stamp) (b : Box Summary) → IsSome r ↔ (0 < length es)
+    → IfSome r (λ p. es ≡ p ∷ fs) → slice_get es 0 ≡ Some (k, b) → opened es ≡ (k, b.value) ∷ opened fs
+popped None [] fs k b there taken at = absurd (cc)
+popped None (e ∷ es) fs k b there taken at = let some = there.1 (omega arith) in absurd (cc)
+popped (Some p) es fs k b there taken at =
+    let first : slice_get (p ∷ fs) 0 ≡ Some (k, b) = subst (λ (hs : List (Stamp × Box Summary)). slice_get hs 0 ≡ Some (k, b)) taken at in
+    let same : p ≡ (k, b) = cc in
+    ap opened taken ∙ ap (λ (x : Stamp × Box Summary). (x.0, x.1.value) ∷ opened fs) same
 
 -- no summary that waits is below the bound
 pub none_past : (bound : Option ℕ) (es : List (Stamp × Summary)) (k : Stamp) (s : Summary) → slice_get es 0 ≡ Some (k, s) → under bound s.at.time ≡ false
@@ -226,7 +264,7 @@ none_past bound (e ∷ es) k s at late =
     let own : under bound e.1.at.time ≡ false = ap (λ (x : Stamp × Summary). under bound x.1.at.time) same ∙ late in
     rw own refl
 
-pub none_waits : (bound : Option ℕ) (es : List (Stamp × Summary)) → (0 < length es → ⊥) → upto (at_time (under bound)) (values_of es) ≡ []
+pub none_waits : (bound : Option ℕ) (es : List (Stamp × Box Summary)) → (0 < length es → ⊥) → upto (at_time (under bound)) (values_of (opened es)) ≡ []
 none_waits bound [] none = refl
 none_waits bound (e ∷ es) none = absurd (none (omega arith))
 

@@ -1,5 +1,6 @@
--- The fields of a grouper: groups that are held, and summaries that wait in a map by their stamps.
-use Rattle.std.specs.Prelude.{ℕ, false, List, ◌≡◌, Option}
+-- The fields of a grouper: groups that are held, and summaries that wait in a map by their stamps, each in a box.
+use Rattle.std.specs.Prelude.{ℕ, false, List, [], ◌∷◌, ◌≡◌, Option}
+use Rattle.std.specs.Global.{Box}
 use Rattle.std.specs.List.{AllByRecursion}
 use Rattle.std.specs.Map.{values_of}
 use Rattle.ds_base.specs.Copies.{Copies}
@@ -11,6 +12,11 @@ use Rattle.watermarks.specs.Least.{under}
 use Rattle.window_grouper.specs.Grouping.{Grouping, marked, placed_all}
 use Rattle.window_grouper.specs.Open.{Open}
 use Rattle.window_grouper.specs.Placing.{HaveBegun}
+
+-- the entries, each with its summary in place of the box
+abbrev pub opened : List (Stamp × Box Summary) → List (Stamp × Summary)
+opened [] = []
+opened (e ∷ es) = (e.0, e.1.value) ∷ opened es
 
 -- what is seen of these marks, these groups and the summaries that were not placed
 abbrev pub seen : List (Option ℕ) → Open → List Summary → Grouping

@@ -10,7 +10,7 @@ ghost use Rattle.window_grouper.specs.Closed.{AreLate, is_closed};
 ghost use Rattle.window_grouper.specs.Groups.{groups_of};
 ghost use Rattle.window_grouper.specs.Grouping.{IsSettled, MayCome, NoneClosed, OthersFrom, StandsFor, is_past, marked, out_mark, with_group, with_summary};
 ghost use Rattle.window_grouper.specs.Sorted.{DiffersFromAll, StampsDiffer, by_stamp};
-ghost use Rattle.window_grouper.specs.Waiting.{IsKept, IsTidy};
+ghost use Rattle.window_grouper.specs.Waiting.{IsKept, IsTidy, opened};
 
 use crate::open_groups::OpenGroups;
 use ds_base::{Group, OutOfMemory, Stamp, Summary};
@@ -28,10 +28,13 @@ use watermarks::Marks;
 /// A call takes the logarithm of what is held for each summary that it adds or places.
 #[derive(Drop)]
 pub struct Grouper {
+    /// Where a summary that waits takes its memory.
+    alloc: Global,
     /// The marks of the captures.
     marks: Marks,
-    /// The summaries that were not placed, by their stamps.
-    waiting: BTreeMap<Stamp, Summary>,
+    /// The summaries that were not placed, by their stamps. A summary is large, so what the map moves about
+    /// is its box.
+    waiting: BTreeMap<Stamp, Box<Summary>>,
     /// The groups of the summaries that were placed. The time of each of these was below the least mark.
     groups: OpenGroups,
 }
@@ -40,13 +43,13 @@ impl Model for Grouper {
     ghost use Rattle.std.specs.Map.{values_of};
     ghost use Rattle.watermarks.specs.Least.{least_mark};
     ghost use Rattle.window_grouper.specs.Grouping.{Grouping};
-    ghost use Rattle.window_grouper.specs.Waiting.{IsTidy, seen};
+    ghost use Rattle.window_grouper.specs.Waiting.{IsTidy, opened, seen};
 
     ghost Value = { Grouping };
 
-    ghost view = { λ g. seen g.marks g.groups (values_of g.waiting.entries) };
+    ghost view = { λ g. seen g.marks g.groups (values_of (opened g.waiting.entries)) };
 
-    ghost invariant = { λ g. IsTidy (least_mark g.marks) g.groups.held g.waiting.entries };
+    ghost invariant = { λ g. IsTidy (least_mark g.marks) g.groups.held (opened g.waiting.entries) };
 }
 
 impl Grouper {
@@ -57,6 +60,7 @@ impl Grouper {
         ensures stands { StandsFor result window [] [] }
     {
         Grouper {
+            alloc,
             marks: Marks::new(captures),
             waiting: BTreeMap::new(alloc),
             groups: OpenGroups::new(alloc, window),
@@ -87,7 +91,11 @@ impl Grouper {
         ensures stands { OnOk result ((window : ℕ) (added : List Summary) (given : List Copies) →
             StandsFor self.old window added given → StampsDiffer (added ++ s ∷ []) → StandsFor self.new window (added ++ s ∷ []) given) }
     {
-        let Ok(_) = self.waiting.insert(s.at, s) else {
+        let at = s.at;
+        let Ok(held) = Box::new(self.alloc, s) else {
+            return Err(OutOfMemory);
+        };
+        let Ok(_) = self.waiting.insert(at, held) else {
             return Err(OutOfMemory);
         };
         Ok(())
@@ -158,13 +166,13 @@ impl Grouper {
 /// Places all summaries that wait and are below the bound, in the order of their stamps. The only refusal
 /// is want of memory, and then some of them may be placed, which changes nothing of what is seen.
 fn place_past(
-    waiting: &mut BTreeMap<Stamp, Summary>,
+    waiting: &mut BTreeMap<Stamp, Box<Summary>>,
     groups: &mut OpenGroups,
     least: Option<u64>,
 ) -> Result<(), OutOfMemory>
-    requires { IsTidy least groups.old.held waiting.old.entries }
-    ensures kept { IsKept least groups.old waiting.old.entries groups.new waiting.new.entries }
-    ensures none { OnOk result (upto (λ s. under least s.at.time) (values_of waiting.new.entries) ≡ []) }
+    requires { IsTidy least groups.old.held (opened waiting.old.entries) }
+    ensures kept { IsKept least groups.old (opened waiting.old.entries) groups.new (opened waiting.new.entries) }
+    ensures none { OnOk result (upto (λ s. under least s.at.time) (values_of (opened waiting.new.entries)) ≡ []) }
 {
     'past: while place_first(waiting, groups, least)? {}
     Ok(())
@@ -172,18 +180,19 @@ fn place_past(
 
 /// Places the first summary that waits, where it is below the bound: false exactly where none is.
 fn place_first(
-    waiting: &mut BTreeMap<Stamp, Summary>,
+    waiting: &mut BTreeMap<Stamp, Box<Summary>>,
     groups: &mut OpenGroups,
     least: Option<u64>,
 ) -> Result<bool, OutOfMemory>
-    requires { IsTidy least groups.old.held waiting.old.entries }
-    ensures kept { IsKept least groups.old waiting.old.entries groups.new waiting.new.entries }
+    requires { IsTidy least groups.old.held (opened waiting.old.entries) }
+    ensures kept { IsKept least groups.old (opened waiting.old.entries) groups.new (opened waiting.new.entries) }
     ensures fewer { IfOk result (λ more. more ≡ true → length waiting.new.entries < length waiting.old.entries) }
-    ensures none { IfOk result (λ more. more ≡ false → upto (λ s. under least s.at.time) (values_of waiting.new.entries) ≡ []) }
+    ensures none { IfOk result (λ more. more ≡ false → upto (λ s. under least s.at.time) (values_of (opened waiting.new.entries)) ≡ []) }
 {
-    let Some((_, s)) = waiting.first_key_value() else {
+    let Some((_, held)) = waiting.first_key_value() else {
         return Ok(false);
     };
+    let s = held.as_ref();
     if is_under(least, s.at.time) {
         groups.place(s)?;
         waiting.pop_first();

@@ -3,6 +3,7 @@ use Rattle.std.specs.Prelude.{set, get_or}
 use Rattle.std.specs.Map.{values_of}
 use Rattle.watermarks.specs.Least.{least_mark}
 use Rattle.watermarks.proofs.Lesser.{lesser_none}
+use Rattle.window_grouper.specs.Waiting.{opened}
 use Rattle.window_grouper.proofs.Waiting.{rises, tidy_marked, seen_changed, stands_seen}
 use Rattle.window_grouper.proofs.grouper.Grouper.end.Goals as goal
 
@@ -10,20 +11,20 @@ pub invariant_of-self : goal.invariant_of-self
 invariant_of-self c =
     let o = c.self.inside in
     let before = get_or o.marks c.args.capture None in
-    let more = rises o.marks c.end.new.self c.args.capture None o.groups (values_of o.waiting.entries) c.args.self.now c.self.view_is c.end.ensures c.requires (lesser_none before) in
-    tidy_marked (least_mark o.marks) (least_mark c.end.new.self) o.groups.held o.waiting.entries more c.self.invariant
+    let more = rises o.marks c.end.new.self c.args.capture None o.groups (values_of (opened o.waiting.entries)) c.args.self.now c.self.view_is c.end.ensures c.requires (lesser_none before) in
+    tidy_marked (least_mark o.marks) (least_mark c.end.new.self) o.groups.held (opened o.waiting.entries) more c.self.invariant
 
 pub returns-clause-marks : goal.returns-clause-marks
 returns-clause-marks c =
     let o = c.self.inside in
     let before = get_or o.marks c.args.capture None in
-    let more = rises o.marks c.end.new.self c.args.capture None o.groups (values_of o.waiting.entries) c.args.self.now c.self.view_is c.end.ensures c.requires (lesser_none before) in
-    seen_changed o.marks c.end.new.self (λ (ms : List (Option ℕ)). set ms c.args.capture None) o.groups (values_of o.waiting.entries)
+    let more = rises o.marks c.end.new.self c.args.capture None o.groups (values_of (opened o.waiting.entries)) c.args.self.now c.self.view_is c.end.ensures c.requires (lesser_none before) in
+    seen_changed o.marks c.end.new.self (λ (ms : List (Option ℕ)). set ms c.args.capture None) o.groups (values_of (opened o.waiting.entries))
     c.args.self.now c.self.view_is c.end.ensures more
 
 pub returns-clause-stands : goal.returns-clause-stands
 returns-clause-stands c window added given h =
     let o = c.self.inside in
     let before = get_or o.marks c.args.capture None in
-    let more = rises o.marks c.end.new.self c.args.capture None o.groups (values_of o.waiting.entries) c.args.self.now c.self.view_is c.end.ensures c.requires (lesser_none before) in
-    stands_seen o.marks c.end.new.self o.groups (values_of o.waiting.entries) c.args.self.now window added given c.self.view_is more h
+    let more = rises o.marks c.end.new.self c.args.capture None o.groups (values_of (opened o.waiting.entries)) c.args.self.now c.self.view_is c.end.ensures c.requires (lesser_none before) in
+    stands_seen o.marks c.end.new.self o.groups (values_of (opened o.waiting.entries)) c.args.self.now window added given c.self.view_is more h
