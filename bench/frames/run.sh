@@ -14,8 +14,10 @@ for crate in ds_base node_frames; do
     done
 done
 bench=$copy/crates/frame_bench
-mkdir -p "$bench/src"
+mkdir -p "$bench/src" "$bench/proofs/there_and_back" "$bench/proofs/time_frames"
 cp "$here/frame_bench/main.txt" "$bench/src/main.rt"
+cp "$here/frame_bench/answers.txt" "$bench/proofs/there_and_back/Answers.antt"
+cp "$here/frame_bench/invariants.txt" "$bench/proofs/time_frames/Invariants.antt"
 grep -E '^(ds_base|node_frames)( |:)' "$crates/../crates.txt" >"$copy/crates.txt"
 echo 'frame_bench: ds_base node_frames sha2' >>"$copy/crates.txt"
 cp "$crates/../HANDLES" "$copy/"
