@@ -1,18 +1,18 @@
 -- What stands at the front of bytes stays when bytes follow.
 use Rattle.std.proofs.Common.{◌≡◌, ◌≤◌, ◌<◌, ℕ, ◌+◌, ◌-◌, List, ◌++◌, length, take, drop, Bool, true, false, refl, sym, ap, ◌∙◌, arith, length-drop, length-append}
-use Rattle.std.specs.Prelude.{nat_le, ◌&&◌, ◌==◌, ◌⊎◌, nat_lt, Option, Some, None, Result, Err}
+use Rattle.std.specs.Prelude.{nat_le, ◌&&◌, ◌⊎◌, nat_lt, Option, Some, None, Result, Err}
 use Rattle.std.proofs.lemmas.Bool.{cases_lt}
 use Rattle.pcap_reader.specs.declared.format.Precision.{Precision}
 use Rattle.std.proofs.Common.{cond, inl, inr}
 use Rattle.ds_base.specs.declared.capture.Bad.{Bad}
-use Rattle.ds_base.specs.declared.capture.PcapFault.TheVariants.{TooLong, TooMany, PcapNg, Magic}
+use Rattle.ds_base.specs.declared.capture.PcapFault.TheVariants.{TooLong, TooMany}
 use Rattle.std.proofs.lemmas.Bool.Decides.{nat_tests}
 use Rattle.std.proofs.lemmas.List.{take-append-le, drop-append-le, drop_at, take_all, length-take, take-append-drop}
-use Rattle.byteorder.specs.Endian.{big_number, little_number}
-use Rattle.pcap_reader.specs.declared.format.Endian.{Endian}
-use Rattle.pcap_reader.specs.declared.format.Endian.TheVariants.{Little, Big}
+use Rattle.capture_bytes.specs.declared.endian.Endian.{Endian}
+use Rattle.capture_bytes.specs.declared.endian.Endian.TheVariants.{Little, Big}
 use Rattle.pcap_reader.specs.declared.format.Format.{Format}
-use Rattle.pcap_reader.specs.Format.{number, word, is_link, bad_at, header_of, format_by_magic, magic_of, short_header, is_short_header}
+use Rattle.capture_bytes.specs.Number.{number}
+use Rattle.pcap_reader.specs.Format.{word, is_link, bad_at, header_of, format_by_magic, magic_of, short_header, is_short_header}
 use Rattle.pcap_reader.specs.Records.{most_records, record_fault, IsLast, longest, captured_length, record_length, begins_record, shown, first_record}
 
 -- four bytes that are all there
@@ -23,8 +23,8 @@ four_append xs ys at fits =
 
 pub word_append : (e : Endian) (xs ys : List ℕ) (at : ℕ) → at + 4 ≤ length xs → word e (xs ++ ys) at ≡ word e xs at
 unfolding number
-word_append Little xs ys at fits = ap (little_number 4) (four_append xs ys at fits)
-word_append Big xs ys at fits = ap (big_number 4) (four_append xs ys at fits)
+word_append Little xs ys at fits = rw (four_append xs ys at fits) refl
+word_append Big xs ys at fits = rw (four_append xs ys at fits) refl
 
 -- what the test of a whole record says
 pub record Fits (f : Format) (xs : List ℕ) : Type 0 where
@@ -185,10 +185,10 @@ not_short r xs b short h long =
     let t : true ≡ is_short_header b.what = ap (λ (c : Bad). is_short_header c.what) e in
     cc
 
-magic_append : (m : Option (Endian × Precision)) (xs zs : List ℕ) (b : Bad) → length xs < 24 → word Big zs 0 ≡ word Big xs 0
+magic_append : (m : Option (Endian × Precision)) (xs zs : List ℕ) (b : Bad) → length xs < 24
     → format_by_magic m xs ≡ Err b → is_short_header b.what ≡ false → format_by_magic m zs ≡ Err b
-magic_append None xs zs b few e h long = ap (λ (w : ℕ). Err (bad_at 0 (cond (w == 0x0A0D0D0A) PcapNg Magic))) e ∙ h
-magic_append (Some m) xs zs b few e h long =
+magic_append None xs zs b few h long = h
+magic_append (Some m) xs zs b few h long =
     let test : nat_lt (length xs) 24 ≡ true = grind (arith, nat_tests) in
     absurd (not_short (format_by_magic (Some m) xs) xs b (rw test refl) h long)
 
@@ -201,13 +201,13 @@ first_word xs ys h =
     ∙ word_append Big xs ys 0 (omega (arith, h))
 
 -- a malformed place in a header that is not whole
-header_of_long : (xs : List ℕ) → 4 ≤ length xs → header_of xs ≡ format_by_magic (magic_of (word Big xs 0)) xs
+pub header_of_long : (xs : List ℕ) → 4 ≤ length xs → header_of xs ≡ format_by_magic (magic_of (word Big xs 0)) xs
 unfolding header_of
 header_of_long xs h =
     let test : nat_lt (length xs) 4 ≡ false = grind (arith, nat_tests) in
     rw test refl
 
-header_of_short : (xs : List ℕ) → length xs < 4 → header_of xs ≡ Err (short_header xs)
+pub header_of_short : (xs : List ℕ) → length xs < 4 → header_of xs ≡ Err (short_header xs)
 unfolding header_of
 header_of_short xs h =
     let test : nat_lt (length xs) 4 ≡ true = grind (arith, nat_tests) in
@@ -221,7 +221,7 @@ part_append xs ys b few h long =
           let e : word Big (take 24 (xs ++ ys)) 0 ≡ word Big xs 0 = first_word xs ys four in
           header_of_long (take 24 (xs ++ ys)) (omega (arith, four, length-take 24 (xs ++ ys), length-append xs ys))
           ∙ ap (λ (w : ℕ). format_by_magic (magic_of w) (take 24 (xs ++ ys))) e
-          ∙ magic_append (magic_of (word Big xs 0)) xs (take 24 (xs ++ ys)) b few e (sym (header_of_long xs four) ∙ h) long
+          ∙ magic_append (magic_of (word Big xs 0)) xs (take 24 (xs ++ ys)) b few (sym (header_of_long xs four) ∙ h) long
     ]
 
 pub header_append : (xs ys : List ℕ) (b : Bad) → header_of (take 24 xs) ≡ Err b → is_short_header b.what ≡ false → header_of (take 24 (xs ++ ys)) ≡ Err b

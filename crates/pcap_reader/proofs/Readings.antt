@@ -5,6 +5,7 @@ use Rattle.pcap_reader.specs.declared.format.Format.{Format}
 use Rattle.pcap_reader.specs.Captured.{Captured}
 use Rattle.pcap_reader.specs.Records.{most_records, record_length, begins_record, first_record, whole_records, behind_records}
 use Rattle.pcap_reader.specs.Reading.{IsRecord, all_shown, joined, IsReading, OneReading, HasReading}
+use Rattle.pcap_reader.proofs.Numbers.{all_of_libpcap}
 use Rattle.pcap_reader.proofs.Fronts.{Fits, begins_fits, fits_begins, begins_append, length_stays}
 use Rattle.pcap_reader.proofs.Runs.{whole_step, whole_stop, whole_none, behind_step, behind_stop, behind_none}
 use Rattle.pcap_reader.proofs.Standing.{records_of_format, rest_of_format}
@@ -97,13 +98,13 @@ read f (suc most) number bytes =
     read_by f most number bytes (begins_record f bytes) refl (read f most (suc number) (drop (record_length f bytes) bytes))
 
 pub has_reading : HasReading
-has_reading f bytes h =
+has_reading f bytes other h =
     let r : Read f most_records 0 (drop 24 bytes) = read f most_records 0 (drop 24 bytes) in
     record {
       slices = r.slices;
       rest = r.rest;
       reading = r.reading;
-      records = records_of_format f bytes h ∙ r.records;
+      records = all_of_libpcap bytes other ∙ records_of_format f bytes h ∙ r.records;
       behind = rest_of_format f bytes h ∙ r.behind;
     }
 

@@ -1,4 +1,4 @@
--- How a reader goes on to stand for what was fed and given.
+-- How the reader of a libpcap file goes on to stand for what was fed and given.
 use Rattle.std.proofs.Common.{◌≡◌, ◌≤◌, ◌<◌, ℕ, suc, ◌+◌, ◌-◌, List, [], ◌∷◌, ◌++◌, length, take, drop, true, false, Option, Some, None, Ok, Err, MatchOption, refl, sym, ap, subst, ◌∙◌, arith, append_assoc, length-append, length-drop}
 use Rattle.std.specs.Prelude.{is_none, nat_lt, ◌&&◌}
 use Rattle.std.proofs.lemmas.List.{append-nil, nil_from_length, take-append-le, drop-append-le, length_push, take_all}
@@ -7,34 +7,33 @@ use Rattle.pcap_reader.specs.declared.format.Format.{Format}
 use Rattle.pcap_reader.specs.Captured.{Captured}
 use Rattle.pcap_reader.specs.Format.{header_of, is_short_header, short_header}
 use Rattle.pcap_reader.specs.Records.{most_records, record_length, begins_record, first_record, whole_records, behind_records, record_fault, IsLast}
-use Rattle.pcap_reader.specs.Good.{file_format, good_records, good_rest, good_bad, good_cut, records_under, rest_under, bad_under}
-use Rattle.pcap_reader.specs.Reader.{Reader, IsUnopened, IsOpened, IsAt, StandsFor, WaitsAt, IsWaiting, bytes_fed, bytes_held}
-use Rattle.pcap_reader.specs.Lent.{AreFirst, GivesNext, GivesNone, GivesBad, IsNowOpen}
-use Rattle.pcap_reader.specs.Laws.{GivenAreFirst, HasAll, WaitingHasAll}
+use Rattle.pcap_reader.specs.Libpcap.{file_format, libpcap_records, libpcap_rest, libpcap_bad, libpcap_cut, records_under, rest_under, bad_under}
+use Rattle.pcap_reader.specs.LibpcapReader.{Reader, IsUnopened, IsOpened, IsAt, StandsFor, WaitsAt, IsWaiting, bytes_fed, bytes_held}
+use Rattle.pcap_reader.specs.LibpcapSteps.{AreFirst, GivesNext, GivesNone, GivesBad, IsNowOpen}
 use Rattle.pcap_reader.proofs.Runs.{whole_more, behind_more, whole_end, behind_end}
 use Rattle.pcap_reader.proofs.Fronts.{shown_number, Fits, begins_fits, last_append, fault_append, header_append}
 
 -- a file with a lawful header
-pub records_of_format : (f : Format) (bytes : List ℕ) → file_format bytes ≡ Ok f → good_records bytes ≡ whole_records f most_records 0 (drop 24 bytes)
-unfolding good_records
+pub records_of_format : (f : Format) (bytes : List ℕ) → file_format bytes ≡ Ok f → libpcap_records bytes ≡ whole_records f most_records 0 (drop 24 bytes)
+unfolding libpcap_records
 records_of_format f bytes h = ap (λ r. records_under r bytes) h
 
-pub rest_of_format : (f : Format) (bytes : List ℕ) → file_format bytes ≡ Ok f → good_rest bytes ≡ behind_records f most_records (drop 24 bytes)
-unfolding good_rest
+pub rest_of_format : (f : Format) (bytes : List ℕ) → file_format bytes ≡ Ok f → libpcap_rest bytes ≡ behind_records f most_records (drop 24 bytes)
+unfolding libpcap_rest
 rest_of_format f bytes h = ap (λ r. rest_under r bytes) h
 
 pub bad_of_format : (f : Format) (bytes : List ℕ) → file_format bytes ≡ Ok f
-    → good_bad bytes ≡ record_fault f (length (good_records bytes)) (length bytes - length (good_rest bytes)) (good_rest bytes)
-unfolding good_bad
+    → libpcap_bad bytes ≡ record_fault f (length (libpcap_records bytes)) (length bytes - length (libpcap_rest bytes)) (libpcap_rest bytes)
+unfolding libpcap_bad
 bad_of_format f bytes h = ap (λ r. bad_under r bytes) h
 
 -- a file with a malformed one
-pub records_of_fault : (b : Bad) (bytes : List ℕ) → file_format bytes ≡ Err b → good_records bytes ≡ []
-unfolding good_records
+pub records_of_fault : (b : Bad) (bytes : List ℕ) → file_format bytes ≡ Err b → libpcap_records bytes ≡ []
+unfolding libpcap_records
 records_of_fault b bytes h = ap (λ r. records_under r bytes) h
 
-pub bad_of_fault : (b : Bad) (bytes : List ℕ) → file_format bytes ≡ Err b → good_bad bytes ≡ Some b
-unfolding good_bad
+pub bad_of_fault : (b : Bad) (bytes : List ℕ) → file_format bytes ≡ Err b → libpcap_bad bytes ≡ Some b
+unfolding libpcap_bad
 bad_of_fault b bytes h = ap (λ r. bad_under r bytes) h
 
 -- the header stays when bytes follow
@@ -88,9 +87,9 @@ given_more f old new fed given o few h count rest =
     }
 
 pub record IsAll (f : Format) (reader : Reader) (fed : List ℕ) (given : List Captured) (rest : List ℕ) : Type 0 where
-  pub records : good_records fed ≡ given
-  pub rest_is : good_rest fed ≡ rest
-  pub bad : good_bad fed ≡ record_fault f reader.count reader.place rest
+  pub records : libpcap_records fed ≡ given
+  pub rest_is : libpcap_rest fed ≡ rest
+  pub bad : libpcap_bad fed ≡ record_fault f reader.count reader.place rest
 
 -- All records were given, and none stands at the front of the rest and the bytes that follow.
 pub all_with : (f : Format) (reader : Reader) (fed more : List ℕ) (given : List Captured)
@@ -99,18 +98,18 @@ pub all_with : (f : Format) (reader : Reader) (fed more : List ℕ) (given : Lis
 all_with f reader fed more given o long number last =
     let rest : List ℕ = reader.rest ++ more in
     let end : 0 < most_records - reader.count → begins_record f rest ≡ false = λ few. last (omega (arith, few)) in
-    let records : good_records (fed ++ more) ≡ given =
+    let records : libpcap_records (fed ++ more) ≡ given =
     o.records more
     ∙ ap (λ (rs : List Captured). given ++ rs) (whole_end f (most_records - reader.count) reader.count rest end)
     ∙ append-nil given in
-    let behind : good_rest (fed ++ more) ≡ rest = o.rest more ∙ behind_end f (most_records - reader.count) rest end in
+    let behind : libpcap_rest (fed ++ more) ≡ rest = o.rest more ∙ behind_end f (most_records - reader.count) rest end in
     let place : length (fed ++ more) - length rest ≡ reader.place = omega (arith, long, length-append fed more, length-append reader.rest more) in
-    let count : length (good_records (fed ++ more)) ≡ reader.count = ap length records ∙ number in
+    let count : length (libpcap_records (fed ++ more)) ≡ reader.count = ap length records ∙ number in
     record {
       records = records;
       rest_is = behind;
       bad = bad_of_format f (fed ++ more) (o.header more)
-          ∙ ap (λ (n : ℕ). record_fault f n (length (fed ++ more) - length (good_rest (fed ++ more))) (good_rest (fed ++ more))) count
+          ∙ ap (λ (n : ℕ). record_fault f n (length (fed ++ more) - length (libpcap_rest (fed ++ more))) (libpcap_rest (fed ++ more))) count
           ∙ ap (λ (xs : List ℕ). record_fault f reader.count (length (fed ++ more) - length xs) xs) behind
           ∙ ap (λ (n : ℕ). record_fault f reader.count n rest) place;
     }
@@ -164,7 +163,7 @@ same_stands old new e fed given s = record {
 at_opened : (f : Format) (reader : Reader) (fed : List ℕ) (given : List Captured) → reader.format ≡ Some f → StandsFor reader fed given → IsOpened f reader fed given
 at_opened f reader fed given e s = let P : Option Format → Type 0 = λ o. IsAt o reader fed given in subst P e s.position
 
-at_unopened : (reader : Reader) (fed : List ℕ) (given : List Captured) → reader.format ≡ None → StandsFor reader fed given → IsUnopened reader fed
+pub at_unopened : (reader : Reader) (fed : List ℕ) (given : List Captured) → reader.format ≡ None → StandsFor reader fed given → IsUnopened reader fed
 at_unopened reader fed given e s = let P : Option Format → Type 0 = λ o. IsAt o reader fed given in subst P e s.position
 
 -- the file header was read
@@ -201,7 +200,6 @@ gives_next f old new was format few h count place rest held =
             given_length = length_push given r ∙ ap (λ (n : ℕ). n + 1) s.given_length ∙ sym count;
             position = subst P (sym format) (goes fed given s);
           };
-      first = λ fed given s more. (whole_records f (most_records - new.count) new.count (new.rest ++ more), (goes fed given s).records more);
       number = shown_number f old.count (take (record_length f old.rest) old.rest);
       given = count;
       fed = same;
@@ -219,8 +217,6 @@ gives_none f old new was e last fault dropped short =
     record {
       stands = same_stands old new e;
       all = λ fed given s. (all fed given s).records;
-      first = λ fed given s more.
-          (whole_records f (most_records - old.count) old.count (old.rest ++ more), (at_opened f old fed given was s).records more);
       bad = λ fed given s.
           let M : Option Bad → Type 0 = λ o. MatchOption o (Unit {0}) (λ b. is_short_header b.what ≡ true) in
           subst M (sym ((all fed given s).bad ∙ fault)) tt;
@@ -258,7 +254,7 @@ gives_bad f reader b was last fault long =
 
 -- what an unread header with a fault says of the file
 pub unread : (reader : Reader) (b : Bad) (fed : List ℕ) (given : List Captured) → reader.format ≡ None
-    → header_of (take 24 reader.rest) ≡ Err b → StandsFor reader fed given → (good_records fed ≡ given) × (good_bad fed ≡ Some b)
+    → header_of (take 24 reader.rest) ≡ Err b → StandsFor reader fed given → (libpcap_records fed ≡ given) × (libpcap_bad fed ≡ Some b)
 unread reader b fed given closed h s =
     let u : IsUnopened reader fed = at_unopened reader fed given closed s in
     let format : file_format fed ≡ Err b = ap (λ (xs : List ℕ). header_of (take 24 xs)) (sym u.rest) ∙ h in
@@ -272,9 +268,6 @@ short_gives_none old new closed e waits dropped short =
     record {
       stands = same_stands old new e;
       all = λ fed given s. (unread old b fed given closed (waits.1) s).0;
-      first = λ fed given s more.
-          let none : given ≡ [] = nil_from_length given (s.given_length ∙ (at_unopened old fed given closed s).count) in
-          (good_records (fed ++ more), ap (λ (rs : List Captured). rs ++ good_records (fed ++ more)) (sym none));
       bad = λ fed given s.
           let M : Option Bad → Type 0 = λ o. MatchOption o (Unit {0}) (λ b. is_short_header b.what ≡ true) in
           subst M (sym ((unread old b fed given closed (waits.1) s).1)) refl;
@@ -311,7 +304,6 @@ unread_gives_bad reader b closed h long =
 pub next_after : (f : Format) (old mid new : Reader) (r : Captured) → IsNowOpen old f mid → GivesNext mid r new → GivesNext old r new
 next_after f old mid new r o g = record {
   stands = λ fed given s. g.stands fed given (o.stands fed given s);
-  first = λ fed given s. g.first fed given (o.stands fed given s);
   number = g.number ∙ o.given;
   given = g.given ∙ ap (λ (n : ℕ). n + 1) o.given;
   fed = g.fed ∙ o.fed;
@@ -323,7 +315,6 @@ pub none_after : (f : Format) (old mid new : Reader) → IsNowOpen old f mid →
 none_after f old mid new o g = record {
   stands = λ fed given s. g.stands fed given (o.stands fed given s);
   all = λ fed given s. g.all fed given (o.stands fed given s);
-  first = λ fed given s. g.first fed given (o.stands fed given s);
   bad = λ fed given s. g.bad fed given (o.stands fed given s);
   waiting = g.waiting;
   given = g.given ∙ o.given;
@@ -345,27 +336,27 @@ bad_after f old mid b o g = record {
 
 -- the end of a file that was read
 pub record IsTail (reader : Reader) (fed : List ℕ) : Type 0 where
-  pub bad : good_bad fed ≡ None
-  pub records : length (good_records fed) ≡ reader.count
-  pub cut : good_cut fed ≡ nat_lt 0 (length reader.rest)
+  pub bad : libpcap_bad fed ≡ None
+  pub records : length (libpcap_records fed) ≡ reader.count
+  pub cut : libpcap_cut fed ≡ nat_lt 0 (length reader.rest)
 
 pub tail : (f : Format) (reader : Reader) (fed : List ℕ) (given : List Captured) → reader.format ≡ Some f → IsWaiting reader
     → StandsFor reader fed given → IsTail reader fed
-unfolding good_cut
+unfolding libpcap_cut
 tail f reader fed given was w s =
     let W : Option Format → Type 0 = λ o. WaitsAt o reader in
     let waits : WaitsAt (Some f) reader = subst W was w.waits in
     let all : IsAll f reader fed given reader.rest = all_given f reader fed given (at_opened f reader fed given was s) s.fed_length s.given_length (waits.0) in
-    let bad : good_bad fed ≡ None = all.bad ∙ waits.1 in
+    let bad : libpcap_bad fed ≡ None = all.bad ∙ waits.1 in
     record {
       bad = bad;
       records = ap length all.records ∙ s.given_length;
-      cut = ap (λ (o : Option Bad). is_none o && nat_lt 0 (length (good_rest fed))) bad ∙ ap (λ (xs : List ℕ). nat_lt 0 (length xs)) all.rest_is;
+      cut = ap (λ (o : Option Bad). is_none o && nat_lt 0 (length (libpcap_rest fed))) bad ∙ ap (λ (xs : List ℕ). nat_lt 0 (length xs)) all.rest_is;
     }
 
 -- the end of a file that is too short for its header
 pub short_tail : (reader : Reader) (fed : List ℕ) (given : List Captured) → reader.format ≡ None → IsWaiting reader
-    → StandsFor reader fed given → good_bad fed ≡ Some (short_header reader.rest)
+    → StandsFor reader fed given → libpcap_bad fed ≡ Some (short_header reader.rest)
 short_tail reader fed given closed w s =
     let W : Option Format → Type 0 = λ o. WaitsAt o reader in
     let waits : WaitsAt None reader = subst W closed w.waits in
@@ -378,12 +369,16 @@ first_at : (format : Option Format) (reader : Reader) (fed : List ℕ) (given : 
     → IsAt format reader fed given → AreFirst fed given
 first_at None reader fed given few at more =
     let none : given ≡ [] = nil_from_length given (few ∙ at.count) in
-    (good_records (fed ++ more), ap (λ (rs : List Captured). rs ++ good_records (fed ++ more)) (sym none))
+    (libpcap_records (fed ++ more), ap (λ (rs : List Captured). rs ++ libpcap_records (fed ++ more)) (sym none))
 first_at (Some f) reader fed given few at more = (whole_records f (most_records - reader.count) reader.count (reader.rest ++ more), at.records more)
 
 -- the records that a reader has given are the first of the file, whatever bytes follow
-pub stands_first : GivenAreFirst
+pub stands_first : (reader : Reader) (fed : List ℕ) (given : List Captured) → StandsFor reader fed given → AreFirst fed given
 stands_first reader fed given s = first_at reader.format reader fed given s.given_length s.position
+
+-- these are all records of these bytes, and no place of them is malformed, but that the header may be cut
+abbrev pub HasAll : (fed : List ℕ) → (given : List Captured) → Type 0
+HasAll fed given = (libpcap_records fed ≡ given) × MatchOption (libpcap_bad fed) (Unit {0}) (λ b. is_short_header b.what ≡ true)
 
 all_at : (format : Option Format) (reader : Reader) (fed : List ℕ) (given : List Captured) → reader.format ≡ format → WaitsAt format reader
     → StandsFor reader fed given → HasAll fed given
@@ -397,5 +392,5 @@ all_at (Some f) reader fed given was waits s =
     (all.records, subst M (sym (all.bad ∙ waits.1)) tt)
 
 -- a reader that waits has given all records of the bytes fed
-pub waiting_has_all : WaitingHasAll
+pub waiting_has_all : (reader : Reader) (fed : List ℕ) (given : List Captured) → IsWaiting reader → StandsFor reader fed given → HasAll fed given
 waiting_has_all reader fed given w s = all_at reader.format reader fed given refl w.waits s

@@ -1,44 +1,50 @@
--- What a whole capture file holds (libpcap file format 2.4): the whole records that stand before its first
--- malformed place or its end, that place, and whether it ends inside a record.
-use Rattle.std.specs.Prelude.{ℕ, ◌-◌, List, [], Bool, length, take, drop, Option, Some, Result, Ok, Err, is_none, nat_lt, ◌&&◌}
+-- What a whole capture file holds, of either format: the records of the interface that is wanted, the first
+-- malformed place, and whether the file ends inside a record or a block.
+use Rattle.std.specs.Prelude.{ℕ, suc, List, [], ◌∷◌, Bool, true, length, map, Option, Some, None, slice_index, nat_le, ◌==◌, ◌&&◌, if◌then◌else◌}
+use Rattle.std.specs.List.{filter}
 use Rattle.ds_base.specs.declared.capture.Bad.{Bad}
-use Rattle.pcap_reader.specs.declared.format.Format.{Format}
-use Rattle.pcap_reader.specs.Captured.{Captured}
-use Rattle.pcap_reader.specs.Format.{header_of}
-use Rattle.pcap_reader.specs.Records.{most_records, whole_records, behind_records, record_fault}
+use Rattle.pcapng_reader.specs.Packet.{Packet}
+use Rattle.pcapng_reader.specs.Good.{ng_packets, ng_bad, ng_cut}
+use Rattle.pcap_reader.specs.Captured.{Captured, as_packet, as_record}
+use Rattle.pcap_reader.specs.Libpcap.{libpcap_records, libpcap_bad, libpcap_cut}
 
--- the format of the file, or the malformed place in its header
-abbrev pub file_format : List ℕ → Result Format Bad
-file_format bytes = header_of (take 24 bytes)
+-- the type of a section block, which reads the same in both orders (pcapng specification section 4.1)
+abbrev pub is_section_type : (first second third fourth : ℕ) → Bool
+is_section_type first second third fourth = (first == 0x0A) && ((second == 0x0D) && ((third == 0x0D) && (fourth == 0x0A)))
 
-abbrev pub records_under : Result Format Bad → List ℕ → List Captured
-records_under (Ok format) bytes = whole_records format most_records 0 (drop 24 bytes)
-records_under (Err bad) bytes = []
+-- A pcapng file begins with a section block. Every other file is read as a libpcap file.
+unfoldable pub is_pcapng : List ℕ → Bool
+is_pcapng bytes =
+    nat_le 4 (length bytes) && is_section_type (slice_index bytes 0) (slice_index bytes 1) (slice_index bytes 2) (slice_index bytes 3)
 
--- the whole records
-unfoldable pub good_records : List ℕ → List Captured
-good_records bytes = records_under (file_format bytes) bytes
+-- the packets of all interfaces
+unfoldable pub file_packets : List ℕ → List Packet
+file_packets bytes = if is_pcapng bytes then ng_packets bytes else map as_packet (libpcap_records bytes)
 
-abbrev pub rest_under : Result Format Bad → List ℕ → List ℕ
-rest_under (Ok format) bytes = behind_records format most_records (drop 24 bytes)
-rest_under (Err bad) bytes = bytes
+-- whether packets of an interface are wanted: all are where none is named
+abbrev pub is_wanted : (wanted : Option ℕ) → (interface : ℕ) → Bool
+is_wanted None interface = true
+is_wanted (Some wanted) interface = interface == wanted
 
--- what stands after the whole records
-unfoldable pub good_rest : List ℕ → List ℕ
-good_rest bytes = rest_under (file_format bytes) bytes
+abbrev pub wanted_packets : (wanted : Option ℕ) → List Packet → List Packet
+wanted_packets wanted packets = filter (λ p. is_wanted wanted p.interface) packets
 
-abbrev pub bad_under : Result Format Bad → List ℕ → Option Bad
-bad_under (Ok format) bytes =
-    record_fault format (length (good_records bytes)) (length bytes - length (good_rest bytes)) (good_rest bytes)
-bad_under (Err bad) bytes = Some bad
+-- the packets as records that are numbered one after the other
+abbrev pub numbered : (number : ℕ) → List Packet → List Captured
+numbered number [] = []
+numbered number (p ∷ ps) = as_record number p ∷ numbered (suc number) ps
 
--- the first malformed place
-unfoldable pub good_bad : List ℕ → Option Bad
-good_bad bytes = bad_under (file_format bytes) bytes
+-- the records of the packets that are wanted
+abbrev pub records_of : (wanted : Option ℕ) → List Packet → List Captured
+records_of wanted packets = numbered 0 (wanted_packets wanted packets)
 
--- whether the file ends inside a record, and is not malformed
-unfoldable pub good_cut : List ℕ → Bool
-good_cut bytes = is_none (good_bad bytes) && nat_lt 0 (length (good_rest bytes))
+-- the first malformed place, whichever interface is wanted
+unfoldable pub file_bad : List ℕ → Option Bad
+file_bad bytes = if is_pcapng bytes then ng_bad bytes else libpcap_bad bytes
+
+-- whether the file ends inside a record or a block, and is not malformed
+unfoldable pub file_cut : List ℕ → Bool
+file_cut bytes = if is_pcapng bytes then ng_cut bytes else libpcap_cut bytes
 
 -- what a file holds
 pub record Good : Type 0 where
@@ -46,7 +52,7 @@ pub record Good : Type 0 where
   pub bad : Option Bad
   pub cut : Bool
 
--- What these bytes hold as a file. All that stands above this file speaks of `good` alone, and of none of
--- the parts before it.
-abbrev pub good : List ℕ → Good
-good bytes = record { records = good_records bytes; bad = good_bad bytes; cut = good_cut bytes }
+-- What these bytes hold as a file of which the packets of this interface are wanted, or of all interfaces. All that
+-- stands above this file speaks of `good` alone, and of none of the parts before it.
+abbrev pub good : (wanted : Option ℕ) → List ℕ → Good
+good wanted bytes = record { records = records_of wanted (file_packets bytes); bad = file_bad bytes; cut = file_cut bytes }

@@ -1,10 +1,11 @@
--- Which records a capture file has, said without an order of reading (libpcap file format 2.4).
-use Rattle.std.specs.Prelude.{◌≡◌, ◌≤◌, ◌<◌, ℕ, suc, List, [], ◌∷◌, ◌++◌, length, drop, Ok}
+-- Which records a libpcap file has, said without an order of reading (libpcap file format 2.4).
+use Rattle.std.specs.Prelude.{◌≡◌, ◌≤◌, ◌<◌, ℕ, suc, List, [], ◌∷◌, ◌++◌, length, drop, Ok, None, false}
 use Rattle.std.specs.List.{flat_map}
 use Rattle.pcap_reader.specs.declared.format.Format.{Format}
 use Rattle.pcap_reader.specs.Captured.{Captured}
 use Rattle.pcap_reader.specs.Records.{longest, most_records, captured_length, record_length, shown}
-use Rattle.pcap_reader.specs.Good.{file_format, good_rest, good}
+use Rattle.pcap_reader.specs.Libpcap.{file_format, libpcap_rest}
+use Rattle.pcap_reader.specs.Good.{good, is_pcapng}
 
 -- The slice is one record: 16 bytes of header and as many bytes as it states, at most 262,144.
 pub record IsRecord (format : Format) (slice : List ℕ) : Type 0 where
@@ -42,8 +43,8 @@ pub record ReadingOf (format : Format) (bytes : List ℕ) : Type 0 where
   pub slices : List (List ℕ)
   pub rest : List ℕ
   pub reading : IsReading format most_records (drop 24 bytes) slices rest
-  pub records : (good bytes).records ≡ all_shown format 0 slices
-  pub behind : good_rest bytes ≡ rest
+  pub records : (good None bytes).records ≡ all_shown format 0 slices
+  pub behind : libpcap_rest bytes ≡ rest
 
 abbrev pub HasReading : Type 0
-HasReading = (format : Format) (bytes : List ℕ) → file_format bytes ≡ Ok format → ReadingOf format bytes
+HasReading = (format : Format) (bytes : List ℕ) → is_pcapng bytes ≡ false → file_format bytes ≡ Ok format → ReadingOf format bytes

@@ -1,16 +1,9 @@
-//! The file header, and the numbers of the file.
-ghost use Rattle.std.specs.Prelude.{◌≡◌, ◌+◌, ◌≤◌, ◌<◌, true, length, take, OnOk, IfOk, IfErr};
-ghost use Rattle.pcap_reader.specs.Format.{number, word, magic_of, header_of, is_short_header, short_header, is_link};
+//! The header of a libpcap file.
+ghost use Rattle.std.specs.Prelude.{◌≡◌, ◌≤◌, ◌<◌, true, length, take, OnOk, IfOk, IfErr};
+ghost use Rattle.pcap_reader.specs.Format.{magic_of, header_of, is_short_header, short_header, is_link};
 
-use byteorder::{BigEndian, ByteOrder, LittleEndian};
+use capture_bytes::{Endian, read_half, read_word};
 use ds_base::{Bad, PcapFault};
-
-/// In which order the bytes of a number stand in the file.
-#[derive(Clone, Copy, Debug, PartialEq, Eq)]
-pub(crate) enum Endian {
-    Little,
-    Big,
-}
 
 /// What the fraction of a second in a record counts.
 #[derive(Clone, Copy, Debug, PartialEq, Eq)]
@@ -25,32 +18,6 @@ pub(crate) struct Format {
     pub(crate) endian: Endian,
     pub(crate) precision: Precision,
     pub(crate) link: u32,
-}
-
-/// The number of four bytes from `at` on.
-#[tactic(auto, unfolding(crate::specs::Format::number))]
-pub(crate) fn read_word(endian: Endian, bytes: &[u8], at: usize) -> u32
-    requires { at + 4 ≤ length bytes.now }
-    ensures { result ≡ word endian bytes.now at }
-{
-    let four = &bytes[at..at + 4];
-    match endian {
-        Endian::Little => LittleEndian::read_u32(four),
-        Endian::Big => BigEndian::read_u32(four),
-    }
-}
-
-/// The number of two bytes from `at` on.
-#[tactic(auto, unfolding(crate::specs::Format::number))]
-fn read_half(endian: Endian, bytes: &[u8], at: usize) -> u16
-    requires { at + 2 ≤ length bytes.now }
-    ensures { result ≡ number endian 2 bytes.now at }
-{
-    let two = &bytes[at..at + 2];
-    match endian {
-        Endian::Little => LittleEndian::read_u16(two),
-        Endian::Big => BigEndian::read_u16(two),
-    }
 }
 
 /// What a magic number says. None: it is none.
@@ -87,12 +54,10 @@ pub(crate) fn read_header(header: &[u8]) -> Result<Format, Bad>
     }
     let first = read_word(Endian::Big, header, 0);
     let Some((endian, precision)) = read_magic(first) else {
-        let what = if first == 0x0A0D_0D0A {
-            PcapFault::PcapNg
-        } else {
-            PcapFault::Magic
-        };
-        return Err(Bad { at: 0, what });
+        return Err(Bad {
+            at: 0,
+            what: PcapFault::Magic,
+        });
     };
     if header.len() < 24 {
         return Err(short);

@@ -1,10 +1,11 @@
-//! One record: where it ends, and what it says.
+//! One record of a libpcap file: where it ends, and what it says.
 ghost use Rattle.std.specs.Prelude.{◌≡◌, ◌+◌, ◌<◌, ◌≤◌, ◌^◌, length, Option, None, Some, IfOk, IfSome, IfNone};
 ghost use Rattle.ds_base.specs.Times.{hour};
 ghost use Rattle.pcap_reader.specs.Records.{begins_record, record_fault, time_of, shown, Finds};
 ghost use Rattle.pcap_reader.specs.Lent.{captured};
 
-use crate::format::{Format, Precision, read_word};
+use crate::format::{Format, Precision};
+use capture_bytes::read_word;
 use ds_base::{Bad, PcapFault};
 
 /// How many bytes of a packet a record has at most.
@@ -16,14 +17,14 @@ pub(crate) const MOST_RECORDS: u64 = 1 << 40;
 /// How many bytes stand in front of a packet's own in a record.
 pub(crate) const HEADER: usize = 16;
 
-/// One record of a capture file (libpcap file format 2.4). Its bytes are lent by the reader.
+/// One record of a capture file. Its bytes are lent by the reader.
 #[derive(Clone, Copy, Debug)]
 pub struct RecordRef<'a> {
-    /// The record's number in the file, counted from 0, below 2^40.
+    /// The record's number among those that are read of the file, counted from 0, below 2^40.
     pub number: u64,
     /// When the packet was captured, in nanoseconds since 1970, more than an hour below 2^63.
     pub time: u64,
-    /// The link type word of the file: 1 (Ethernet) or 101 (raw IP).
+    /// The link type: of a libpcap file 1 (Ethernet) or 101 (raw IP), of a pcapng file that of the interface.
     pub link: u32,
     /// How many bytes the packet had, of which some may not have been captured.
     pub orig: u32,
@@ -105,7 +106,7 @@ pub(crate) fn read_record(format: Format, number: u64, slice: &[u8]) -> RecordRe
 
 /// A record that was found and stands at the end of the bytes that were used up.
 #[derive(Clone, Copy)]
-pub(crate) struct Found {
+pub(crate) struct FoundRecord {
     pub(crate) format: Format,
     pub(crate) number: u64,
     /// How long the record is, with its header.

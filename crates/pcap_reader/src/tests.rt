@@ -1,8 +1,8 @@
-//! Capture files as bytes, by the format: read in pieces of several lengths, and by the plain program.
+//! Capture files as bytes, by the formats: read in pieces of several lengths, and of libpcap by the plain program.
 ghost use Rattle.std.specs.Prelude.{◌≡◌, ◌≤◌, ◌<◌, ◌^◌, length, IfOk, IfNone};
 ghost use Rattle.pcap_reader.specs.Reader.{bytes_fed, IsWaiting};
 
-use crate::{PcapReader, RecordRef, check_file};
+use crate::{PcapReader, RecordRef, check_file, is_pcapng};
 use ds_base::{Bad, PcapFault, Tail};
 use std::alloc::{AllocError, Global};
 use std::process::Abort;
@@ -54,9 +54,10 @@ fn drain(reader: &mut PcapReader, records: &mut Records) -> Result<Option<Bad>, 
     }
 }
 
-/// Reads a whole file in pieces.
+/// Reads a whole file in pieces, the packets of this interface or of all.
 fn read_file(
     alloc: Global,
+    wanted: Option<u32>,
     bytes: &[u8],
     piece: usize,
     records: &mut Records,
@@ -64,7 +65,7 @@ fn read_file(
     requires some { 1 ≤ piece }
     requires room { length bytes.now < 2 ^ 62 }
 {
-    let mut reader = PcapReader::new(alloc);
+    let mut reader = PcapReader::for_interface(alloc, wanted);
     let mut at = 0;
     while at < bytes.len() {
         let end = at + piece.min(bytes.len() - at);
@@ -110,6 +111,18 @@ const TOO_LONG: &[u8; 16] = b"\0\0\0\0\0\0\0\0\x01\x00\x04\x00\0\0\0\0";
 
 const FAR_TOO_LONG: &[u8; 16] = b"\0\0\0\0\0\0\0\0\xFF\xFF\xFF\xFF\0\0\0\0";
 
+/// A little-endian section of a pcapng file, its interface on Ethernet, and the head and the end of an enhanced
+/// packet block of 42 bytes.
+const SECTION: &[u8] = b"\x0A\x0D\x0D\x0A\x1C\0\0\0\x4D\x3C\x2B\x1A\x01\0\0\0\
+    \xFF\xFF\xFF\xFF\xFF\xFF\xFF\xFF\x1C\0\0\0";
+
+const INTERFACE: &[u8] = b"\x01\0\0\0\x14\0\0\0\x01\0\0\0\0\0\x04\0\x14\0\0\0";
+
+const PACKET_HEAD: &[u8] =
+    b"\x06\0\0\0\x4C\0\0\0\0\0\0\0\0\0\0\0\x40\x42\x0F\0\x2A\0\0\0\x2A\0\0\0";
+
+const PACKET_TAIL: &[u8] = b"\0\0\x4C\0\0\0";
+
 fn whole(records: u64) -> Result<Tail, Bad> {
     Ok(Tail {
         records,
@@ -134,14 +147,16 @@ fn ends(
 ) -> Result<(), AllocError> {
     let file = joined(alloc, parts)?;
     assert!(rt; file.len() < 1000);
-    assert_eq!(rt; check_file(file.as_slice()), wanted);
+    if !is_pcapng(file.as_slice()) {
+        assert_eq!(rt; check_file(file.as_slice()), wanted);
+    }
     for piece in [1, 2, 3, 7, 16, 4096] {
         let mut records = Records {
             rows: Vec::new(alloc),
             bytes: Vec::new(alloc),
         };
         assert_eq!(rt;
-            read_file(alloc, file.as_slice(), piece, &mut records)?,
+            read_file(alloc, None, file.as_slice(), piece, &mut records)?,
             wanted
         );
     }
@@ -150,8 +165,24 @@ fn ends(
 
 #[test]
 fn each_file_ends_as_the_format_says(rt: HostRuntime) -> Result<(), Fail> {
-    let files: [(&[&[u8]], Result<Tail, Bad>); 18] = [
-        (&[b"\x0A\x0D\x0D\x0A"], bad(0, PcapFault::PcapNg)),
+    let files: [(&[&[u8]], Result<Tail, Bad>); 22] = [
+        (
+            &[b"\x0A\x0D\x0D\x0A"],
+            bad(4, PcapFault::ShortHeader { len: 4 }),
+        ),
+        (
+            &[b"\x0A\x0D\x0D\x0A\x1C\0\0\0\x4D\x3C\x2B\x1B"],
+            bad(8, PcapFault::PcapNg),
+        ),
+        (&[b"\x0A\x0D\x0D\x0B"], bad(0, PcapFault::Magic)),
+        (
+            &[SECTION, INTERFACE, PACKET_HEAD, PACKET, PACKET_TAIL],
+            whole(1),
+        ),
+        (
+            &[SECTION, INTERFACE, PACKET_HEAD, PACKET, &PACKET_TAIL[..5]],
+            cut(0),
+        ),
         (&[b"\xD4\xC3\xB2\xA0\x02\x00"], bad(0, PcapFault::Magic)),
         (&[], bad(0, PcapFault::ShortHeader { len: 0 })),
         (
@@ -227,7 +258,10 @@ fn shows(
         rows: Vec::new(alloc),
         bytes: Vec::new(alloc),
     };
-    assert_eq!(rt; read_file(alloc, file.as_slice(), 7, &mut read)?, whole(1));
+    assert_eq!(rt;
+        read_file(alloc, None, file.as_slice(), 7, &mut read)?,
+        whole(1)
+    );
     assert_eq!(rt; read.rows.as_slice(), [row].as_slice());
     assert_eq!(rt; read.bytes.as_slice(), &record[16..]);
     Ok(())
@@ -269,6 +303,73 @@ fn times_are_nanoseconds_in_every_format(rt: HostRuntime) -> Result<(), Fail> {
     ];
     for (start, link, record, row) in records {
         shows(&rt, rt.alloc(), start, link, record, row)?;
+    }
+    Ok(())
+}
+
+#[test]
+fn records_of_one_interface_are_numbered_from_0(rt: HostRuntime) -> Result<(), Fail> {
+    let alloc = rt.alloc();
+    let raw: &[u8] = b"\x01\0\0\0\x14\0\0\0\x65\0\0\0\0\0\x04\0\x14\0\0\0";
+    let of_raw: &[u8] = b"\x06\0\0\0\x4C\0\0\0\x01\0\0\0\0\0\0\0\x4A\x42\x0F\0\x2A\0\0\0\x2B\0\0\0";
+    let file = joined(
+        alloc,
+        &[
+            SECTION,
+            INTERFACE,
+            raw,
+            PACKET_HEAD,
+            PACKET,
+            PACKET_TAIL,
+            of_raw,
+            PACKET,
+            PACKET_TAIL,
+            PACKET_HEAD,
+            PACKET,
+            PACKET_TAIL,
+        ],
+    )?;
+    assert!(rt; file.len() < 1000);
+    let first = Row(0, 1_000_000_000, 1, 42, 42);
+    let last = Row(1, 1_000_000_000, 1, 42, 42);
+    let second = Row(0, 1_000_010_000, 101, 43, 42);
+    let all = [
+        first,
+        Row(1, 1_000_010_000, 101, 43, 42),
+        Row(2, 1_000_000_000, 1, 42, 42),
+    ];
+    let cases: [(Option<u32>, &[Row]); 4] = [
+        (None, &all),
+        (Some(0), &[first, last]),
+        (Some(1), &[second]),
+        (Some(2), &[]),
+    ];
+    for (wanted, rows) in cases {
+        for piece in [1, 2, 3, 7, 16, 4096] {
+            let mut read = Records {
+                rows: Vec::new(alloc),
+                bytes: Vec::new(alloc),
+            };
+            let end = read_file(alloc, wanted, file.as_slice(), piece, &mut read)?;
+            assert_eq!(rt; end, whole(rows.len() as u64));
+            assert_eq!(rt; read.rows.as_slice(), rows);
+            for packet in read.bytes.chunks(42) {
+                assert_eq!(rt; packet, PACKET.as_slice());
+            }
+        }
+    }
+    // A libpcap file has the one interface 0.
+    let plain = joined(alloc, &[HEADER, HEAD, PACKET])?;
+    assert!(rt; plain.len() < 1000);
+    for (wanted, records) in [(None, 1), (Some(0), 1), (Some(1), 0)] {
+        let mut read = Records {
+            rows: Vec::new(alloc),
+            bytes: Vec::new(alloc),
+        };
+        assert_eq!(rt;
+            read_file(alloc, wanted, plain.as_slice(), 7, &mut read)?,
+            whole(records)
+        );
     }
     Ok(())
 }

@@ -1,6 +1,6 @@
 -- What the checker did not find by itself.
 mod Scanning
 mod Powers
-mod Fronts
-mod Walking
-mod Standing
+pub mod Fronts
+pub mod Walking
+pub mod Standing

@@ -126,7 +126,7 @@ whole_end r fed given w s =
 pub end_bad : (r : Reader) (fed : List ℕ) (given : List Packet) → IsWaiting r → StandsFor r fed given → ng_bad fed ≡ short_file fed
 end_bad r fed given w s = ap (λ (walk : Walk). bad_or_short walk.bad fed) (whole_end r fed given w s)
 
-short_or_none : (fed : List ℕ) → MatchOption (short_file fed) (Unit {0}) (λ b. is_short_header b.what ≡ true)
+pub short_or_none : (fed : List ℕ) → MatchOption (short_file fed) (Unit {0}) (λ b. is_short_header b.what ≡ true)
 short_or_none fed =
     elim (cases_lt (length fed) 28) [
       | inl few ↦ rw (below (length fed) 28 few) refl
@@ -162,6 +162,7 @@ none_end old mid new a e state blocks rest spent =
       };
       given = given_same;
       fed = fed_same;
+      kept = omega (arith, ap length spent, ap length rest, a.held);
       held = omega (arith, ap length spent, ap length rest, e.short);
     }
 

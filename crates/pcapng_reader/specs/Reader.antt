@@ -99,6 +99,7 @@ pub record GivesNone (old new : Reader) : Type 0 where
   pub waiting : IsWaiting new
   pub given : packets_given new ≡ packets_given old
   pub fed : bytes_fed new ≡ bytes_fed old
+  pub kept : bytes_held new ≤ bytes_held old
   pub held : bytes_held new ≤ 16777215
 
 -- All packets were given, and this is the malformed place, whatever bytes follow. It comes again at each later call.

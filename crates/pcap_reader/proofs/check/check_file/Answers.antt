@@ -6,9 +6,11 @@ use Rattle.std.proofs.lemmas.Result.{err_from_is_err_and}
 use Rattle.ds_base.specs.declared.capture.Bad.{Bad}
 use Rattle.pcap_reader.specs.declared.format.Format.{Format}
 use Rattle.pcap_reader.specs.Format.{header_of}
-use Rattle.pcap_reader.specs.Good.{good_bad}
-use Rattle.pcap_reader.specs.Reader.{Reader, StandsFor}
+use Rattle.pcap_reader.specs.Libpcap.{libpcap_bad}
+use Rattle.pcap_reader.specs.LibpcapReader.{Reader, StandsFor}
 use Rattle.pcap_reader.proofs.Standing.{now_open, gives_next, gives_bad, IsTail, tail, bad_of_fault}
+use Rattle.pcap_reader.proofs.Formats.{bad_other, cut_other}
+use Rattle.pcap_reader.proofs.Numbers.{all_of_libpcap}
 use Rattle.pcap_reader.proofs.check.check_file.Goals as goal
 
 -- a reader of a whole file that has come to a place
@@ -33,7 +35,7 @@ pub returns-in_err-format-clause-bad : goal.returns-in_err-format-clause-bad
 returns-in_err-format-clause-bad c =
     let b : Bad = c.in_err-format.field-0.0 in
     let p = err_from_is_err_and c.from_residual.result c.from_residual.ensures.1 in
-    rw (p.1, p.2) (bad_of_fault b c.args.bytes.now (sym (c.in_err-format.ensures.value ∙ ap header_of c.front.ensures)))
+    rw (p.1, p.2) (bad_other c.args.bytes.now c.requires.libpcap ∙ bad_of_fault b c.args.bytes.now (sym (c.in_err-format.ensures.value ∙ ap header_of c.front.ensures)))
 
 pub loop-len-init : goal.loop-len-init
 loop-len-init c =
@@ -52,7 +54,7 @@ returns-in_err-len-clause-bad c =
     let found = rw take_rest at c.in_err-len.ensures.found in
     let reader : Reader = reader_at (Some f) c.loop-len.records c.loop-len.at bytes in
     let p = err_from_is_err_and c.from_residual-in_err-len.result c.from_residual-in_err-len.ensures.1 in
-    rw (p.1, p.2) (ap good_bad (sym (append-nil bytes))
+    rw (p.1, p.2) (bad_other bytes c.requires.libpcap ∙ ap libpcap_bad (sym (append-nil bytes))
     ∙ (gives_bad f reader b refl (found.0) (found.1) (found.2)).bad bytes c.loop-len.invariant.stands.0 c.loop-len.invariant.stands.1 [])
 
 pub loop-len-preserved : goal.loop-len-preserved
@@ -81,7 +83,7 @@ returns-clause-whole c =
     let found = rw (c.in_default.is, take_rest) at c.in_ok-len.ensures.found in
     let reader : Reader = reader_at (Some f) c.loop-len.records c.loop-len.at bytes in
     let t : IsTail reader bytes = tail f reader bytes c.loop-len.invariant.stands.0 refl (record { waits = (found.0, found.1) }) c.loop-len.invariant.stands.1 in (
-      t.bad,
-      sym t.records,
-      less_is_some c.loop-len.at (length bytes) (length (drop c.loop-len.at bytes)) (length-drop c.loop-len.at bytes) ∙ sym t.cut,
+      bad_other bytes c.requires.libpcap ∙ t.bad,
+      sym t.records ∙ sym (ap length (all_of_libpcap bytes c.requires.libpcap)),
+      less_is_some c.loop-len.at (length bytes) (length (drop c.loop-len.at bytes)) (length-drop c.loop-len.at bytes) ∙ sym t.cut ∙ sym (cut_other bytes c.requires.libpcap),
     )

@@ -1,6 +1,6 @@
 use Rattle.std.proofs.Common.{◌-◌, ◌≤◌, List, [], length, drop, Some}
 use Rattle.pcap_reader.specs.Captured.{Captured}
-use Rattle.pcap_reader.specs.Reader.{StandsFor}
+use Rattle.pcap_reader.specs.LibpcapReader.{StandsFor}
 use Rattle.pcap_reader.proofs.check.check_file.Given as goal
 
 -- a reader would stand here for all bytes and the records so far

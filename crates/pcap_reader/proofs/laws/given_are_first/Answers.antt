@@ -1,4 +1,4 @@
-use Rattle.pcap_reader.proofs.Standing.{stands_first, waiting_has_all}
+use Rattle.pcap_reader.proofs.Giving.{stands_first, waiting_has_all}
 use Rattle.pcap_reader.proofs.laws.given_are_first.Goals as goal
 
 pub returns-clause-first : goal.returns-clause-first

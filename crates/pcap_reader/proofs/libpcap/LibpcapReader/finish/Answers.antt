@@ -1,10 +1,10 @@
 use Rattle.std.proofs.Common.{◌≡◌, ◌∙◌, sym, ap, ℕ, List, length, Bool, refl, arith, Some, None}
 use Rattle.std.specs.Prelude.{nat_lt, ◌==◌, not}
 use Rattle.std.proofs.lemmas.Bool.Decides.{nat_tests}
-use Rattle.pcap_reader.specs.Reader.{Reader}
+use Rattle.pcap_reader.specs.LibpcapReader.{Reader}
 use Rattle.pcap_reader.specs.Format.{short_header}
 use Rattle.pcap_reader.proofs.Standing.{tail, IsTail, short_tail}
-use Rattle.pcap_reader.proofs.reader.PcapReader.finish.Goals as goal
+use Rattle.pcap_reader.proofs.libpcap.LibpcapReader.finish.Goals as goal
 
 not_empty : (n : ℕ) (empty : Bool) → empty ≡ (n == 0) → not empty ≡ nat_lt 0 n
 not_empty n empty h = grind (arith, nat_tests)

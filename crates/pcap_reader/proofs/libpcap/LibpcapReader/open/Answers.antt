@@ -1,10 +1,10 @@
 use Rattle.std.proofs.Common.{◌≡◌, ◌∙◌, ◌+◌, ◌-◌, ◌<◌, ◌≤◌, sym, ap, ℕ, List, length, take, drop, refl, arith, None, Err, length-take, length-drop, length-append}
 use Rattle.ds_base.specs.declared.capture.Bad.{Bad}
-use Rattle.pcap_reader.specs.Reader.{Reader}
+use Rattle.pcap_reader.specs.LibpcapReader.{Reader}
 use Rattle.pcap_reader.specs.Format.{header_of, short_header}
 use Rattle.pcap_reader.proofs.Standing.{now_open}
-use Rattle.pcap_reader.proofs.reader.PcapReader.open.Goals as goal
-use Rattle.pcap_reader.proofs.reader.PcapReader.open.Goals.{then-is_short, else-is_short}
+use Rattle.pcap_reader.proofs.libpcap.LibpcapReader.open.Goals as goal
+use Rattle.pcap_reader.proofs.libpcap.LibpcapReader.open.Goals.{then-is_short, else-is_short}
 
 -- a front that is as long as was asked for
 long_enough : (n : ℕ) (header xs : List ℕ) → header ≡ take n xs → length header ≡ n → n ≤ length xs
@@ -22,7 +22,7 @@ invariant_of-self c =
     let long : 24 ≤ length c.self.inside.bytes.rest = long_enough 24 c.front.result.now c.self.inside.bytes.rest (c.front.ensures ∙ ap (take 24) c.rest.ensures) c.in-Ok.ensures.whole in
     let left : length c.spend.new.self.rest ≡ length c.self.inside.bytes.rest - 24 = ap length c.spend.ensures.rest ∙ length-drop 24 c.self.inside.bytes.rest in
     let bounded = rw c.in_default.is at c.self.invariant.2 in
-    (omega (arith, long, left, c.self.invariant.0), c.in-Ok.ensures.link, (omega (arith, bounded.0), omega (arith, bounded.1)))
+    (omega (arith, long, left, c.self.invariant.0), c.in-Ok.ensures.link, (omega (arith, bounded.0), omega (arith, bounded.1), omega arith))
 
 pub returns-in-Ok : goal.returns-in-Ok
 returns-in-Ok c =
