@@ -1,1 +1,2 @@
 pub mod Less
+pub mod More

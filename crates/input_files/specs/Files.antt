@@ -12,13 +12,13 @@ use Rattle.pcap_reader.specs.Good.{good}
 abbrev pub HasFile : FolderSeen → List ℕ → Type 0
 HasFile folder name = IsSome (file_named folder.files name)
 
--- the folder has the file of that name, and as a capture it is not malformed
+-- the folder has the file of that name, and as a capture it is not malformed, whichever interface is wanted
 abbrev pub HasSound : FolderSeen → List ℕ → Type 0
-HasSound folder name = (bytes : List ℕ) × (file_named folder.files name ≡ Some bytes) × ((good bytes).bad ≡ None)
+HasSound folder name = (bytes : List ℕ) × (file_named folder.files name ≡ Some bytes) × ((good None bytes).bad ≡ None)
 
 -- the file of that name has its first malformed place there
 abbrev pub IsMalformed : FolderSeen → List ℕ → ℕ → PcapFault → Type 0
-IsMalformed folder name at what = (bytes : List ℕ) × (file_named folder.files name ≡ Some bytes) × ((good bytes).bad ≡ Some (bad_at at what))
+IsMalformed folder name at what = (bytes : List ℕ) × (file_named folder.files name ≡ Some bytes) × ((good None bytes).bad ≡ Some (bad_at at what))
 
 -- a read failed, or the folder lacks the file
 abbrev pub IsUnread : FolderSeen → FolderSeen → List ℕ → Type 0

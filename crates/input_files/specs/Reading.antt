@@ -29,10 +29,10 @@ records_read reading = records_given reading.reader
 abbrev pub work_left : Reading → ℕ
 work_left reading = (2 ^ 62 - bytes_read reading) * 2 ^ 62 + bytes_left reading.reader
 
--- These bytes of the source were read, and these records of them were given. Where the source tells, the bytes
--- are the front of its file, and what is left of it stands after them.
-pub record HasRead (reading : Reading) (source : SourceSeen) (bytes : List ℕ) (given : List Captured) : Type 0 where
-  pub stands : StandsFor reading.reader bytes given
+-- These bytes of the source were read, and these records of them that are wanted were given. Where the source tells,
+-- the bytes are the front of its file, and what is left of it stands after them.
+pub record HasRead (wanted : Option ℕ) (reading : Reading) (source : SourceSeen) (bytes : List ℕ) (given : List Captured) : Type 0 where
+  pub stands : StandsFor wanted reading.reader bytes given
   pub front : IsTrue source.told → source.whole ≡ bytes ++ source.left
 
 -- One piece more of the source was read: it stands after what was read before, and no record of it was given.
@@ -40,7 +40,7 @@ pub record ReadsMore (old new : Reading) (before after : SourceSeen) : Type 0 wh
   pub piece : List ℕ
   pub some : 0 < length piece
   pub most : length piece ≤ old.piece
-  pub reads : (bytes : List ℕ) (given : List Captured) → HasRead old before bytes given → HasRead new after (bytes ++ piece) given
+  pub reads : (wanted : Option ℕ) (bytes : List ℕ) (given : List Captured) → HasRead wanted old before bytes given → HasRead wanted new after (bytes ++ piece) given
   pub given : records_read new ≡ records_read old
   pub read : bytes_read new ≡ bytes_read old + length piece
   pub held : bytes_held new.reader ≤ bytes_held old.reader + length piece
@@ -50,8 +50,8 @@ pub record ReadsMore (old new : Reading) (before after : SourceSeen) : Type 0 wh
 -- The source is at its end: where it tells, what was read is its whole file.
 pub record ReadsEnd (old new : Reading) (before after : SourceSeen) : Type 0 where
   pub same : new ≡ old
-  pub reads : (bytes : List ℕ) (given : List Captured) → HasRead old before bytes given → HasRead new after bytes given
-  pub whole : (bytes : List ℕ) (given : List Captured) → HasRead old before bytes given → IsTrue before.told → before.whole ≡ bytes
+  pub reads : (wanted : Option ℕ) (bytes : List ℕ) (given : List Captured) → HasRead wanted old before bytes given → HasRead wanted new after bytes given
+  pub whole : (wanted : Option ℕ) (bytes : List ℕ) (given : List Captured) → HasRead wanted old before bytes given → IsTrue before.told → before.whole ≡ bytes
 
 -- what a read answers, and the reading and the source afterwards
 abbrev pub Reads : Reading → Reading → SourceSeen → SourceSeen → Piece → Type 0
@@ -62,7 +62,7 @@ Reads old new before after End = (after.faults ≡ before.faults) × ReadsEnd ol
 -- left are the file as before; where there was no memory for a piece, it was taken of the source and is lost.
 abbrev pub StopsPiece : Reading → Reading → SourceSeen → SourceSeen → FileFault → Type 0
 StopsPiece old new before after Unread = (new ≡ old) × Rose before.faults after.faults
-    × ((bytes : List ℕ) (given : List Captured) → HasRead old before bytes given → HasRead new after bytes given)
+    × ((wanted : Option ℕ) (bytes : List ℕ) (given : List Captured) → HasRead wanted old before bytes given → HasRead wanted new after bytes given)
 StopsPiece old new before after OutOfMemory = (new ≡ old) × (after.faults ≡ before.faults)
 
 -- what a call of `next` answers, and the reading afterwards

@@ -53,10 +53,11 @@ impl CaptureReading {
     ghost use mathlib.Core.Option.{none};
     ghost use denote.Follow.{follows_so};
 
-    /// Nothing was read. Each read will ask for `piece` bytes, for which it takes the memory here.
-    pub fn new(alloc: Global, piece: u32) -> Result<Self, OutOfMemory>
+    /// Nothing was read. The records are those of the interface that is wanted, or of all; each read will ask for
+    /// `piece` bytes, for which it takes the memory here.
+    pub fn new(alloc: Global, wanted: Option<u32>, piece: u32) -> Result<Self, OutOfMemory>
         requires { 0 < piece }
-        ensures none { IfOk result (λ reading. (source : SourceSeen) → IsFresh source → HasRead reading source [] []) }
+        ensures none { IfOk result (λ reading. (source : SourceSeen) → IsFresh source → HasRead wanted reading source [] []) }
         ensures asks { IfOk result (λ reading. reading.piece ≡ piece) }
         ensures waiting { IfOk result (λ reading. IsWaiting reading.reader) }
         ensures given { IfOk result (λ reading. records_read reading ≡ 0) }
@@ -66,7 +67,7 @@ impl CaptureReading {
             return Err(OutOfMemory);
         };
         Ok(CaptureReading {
-            reader: PcapReader::new(alloc),
+            reader: PcapReader::for_interface(alloc, wanted),
             buffer,
         })
     }
@@ -97,8 +98,8 @@ impl CaptureReading {
     }
 
     /// The next record of what was read, with its bytes lent. None: what was read has no further whole
-    /// record and no malformed place, or ends inside the file header; then `read` goes on, or at the end
-    /// `finish`. `Bad` is the first malformed place, once the records before it were given; it comes again
+    /// record that is wanted and no malformed place, or ends inside the first header or block of the file; then
+    /// `read` goes on, or at the end `finish`. `Bad` is the first malformed place, once the records before it were given; it comes again
     /// at each later call.
     pub fn next(&mut self) -> Result<Option<RecordRef<'_>>, Bad>
         ensures lawful { IfOk result (λ o. IfSome o (λ r. IsLawful (captured r))) }
@@ -109,19 +110,20 @@ impl CaptureReading {
         self.reader.next()
     }
 
-    /// What is known at the end of the source: how many records the capture has, and whether it ends inside
-    /// one; or that it ends inside its header.
+    /// What is known at the end of the source: how many records the capture has that are wanted, and whether it ends
+    /// inside a record or a block; or that it ends inside its first header or block.
     pub fn finish(&self) -> Result<Tail, Bad>
         requires { IsWaiting self.now.reader }
-        ensures whole { IfOk result (λ t. (source : SourceSeen) (bytes : List ℕ) (given : List Captured) → HasRead self.now source bytes given →
-            ((good bytes).bad ≡ None) × (t.records ≡ length (good bytes).records) × (t.cut ≡ (good bytes).cut)) }
-        ensures short { IfErr result (λ b. (source : SourceSeen) (bytes : List ℕ) (given : List Captured) → HasRead self.now source bytes given →
-            ((good bytes).bad ≡ Some b) × (is_short_header b.what ≡ true)) }
+        ensures whole { IfOk result (λ t. (wanted : Option ℕ) (source : SourceSeen) (bytes : List ℕ) (given : List Captured) → HasRead wanted self.now source bytes given →
+            ((good wanted bytes).bad ≡ None) × (t.records ≡ length (good wanted bytes).records) × (t.cut ≡ (good wanted bytes).cut)) }
+        ensures short { IfErr result (λ b. (wanted : Option ℕ) (source : SourceSeen) (bytes : List ℕ) (given : List Captured) → HasRead wanted self.now source bytes given →
+            ((good wanted bytes).bad ≡ Some b) × (is_short_header b.what ≡ true)) }
     {
         self.reader.finish()
     }
 
-    /// How many bytes are kept in memory beside the piece: at most 262,159 after `next` answered None.
+    /// How many bytes are kept in memory beside the piece: after `next` answered None at most 262,159 of a libpcap
+    /// file, and 16,777,215 of a pcapng file.
     pub fn held(&self) -> u64
         ensures { result ≡ bytes_held self.now.reader }
     {
