@@ -41,20 +41,20 @@ begun_with_line lines start written line given r whole is first begun =
 
 -- the same of a whole file, of which these are the bytes
 pub begun_of_whole : (asking : Asking) (start written bytes whole : List ℕ) → whole ≡ bytes
-    → GainsPrefix start written (lines_by asking (good bytes).records) → GainsPrefix start written (lines_by asking (good whole).records)
+    → GainsPrefix start written (lines_by asking (good None bytes).records) → GainsPrefix start written (lines_by asking (good None whole).records)
 begun_of_whole asking start written bytes whole is begun =
-    let P : List ℕ → Type 0 = λ file. GainsPrefix start written (lines_by asking (good file).records) in
+    let P : List ℕ → Type 0 = λ file. GainsPrefix start written (lines_by asking (good None file).records) in
     subst P (sym is) begun
 
 -- a front of the lines is one of the report
-pub begun_report : (asking : Asking) (start written bytes : List ℕ) → GainsPrefix start written (lines_by asking (good bytes).records)
+pub begun_report : (asking : Asking) (start written bytes : List ℕ) → GainsPrefix start written (lines_by asking (good None bytes).records)
     → GainsPrefix start written (report_by asking bytes)
 begun_report asking start written bytes begun =
-    gains_longer start written (lines_by asking (good bytes).records) (last_line_of (good bytes).bad (good bytes).cut) begun
+    gains_longer start written (lines_by asking (good None bytes).records) (last_line_of (good None bytes).bad (good None bytes).cut) begun
 
 -- the lines and the last one are the report of a file that is not malformed
-pub whole_report : (asking : Asking) (bytes : List ℕ) (cut : Bool) → (good bytes).bad ≡ None → cut ≡ (good bytes).cut
-    → lines_by asking (good bytes).records ++ last_line cut ≡ report_by asking bytes
+pub whole_report : (asking : Asking) (bytes : List ℕ) (cut : Bool) → (good None bytes).bad ≡ None → cut ≡ (good None bytes).cut
+    → lines_by asking (good None bytes).records ++ last_line cut ≡ report_by asking bytes
 whole_report asking bytes cut sound is =
-    ap (λ (c : Bool). lines_by asking (good bytes).records ++ last_line c) is
-    ∙ ap (λ (o : Option Bad). lines_by asking (good bytes).records ++ last_line_of o (good bytes).cut) (sym sound)
+    ap (λ (c : Bool). lines_by asking (good None bytes).records ++ last_line c) is
+    ∙ ap (λ (o : Option Bad). lines_by asking (good None bytes).records ++ last_line_of o (good None bytes).cut) (sym sound)

@@ -64,16 +64,16 @@ pub record IsReadTo (asking : Asking) (before after : SourceSeen) (reading : Rea
   pub quiet : new.faults ≡ old.faults
   pub waiting : IsWaiting reading.reader
   pub given : List ℕ
-  pub read : HasRead reading after given (good given).records
-  pub text : HasPrinted old.written new printer.text.items (lines_by asking (good given).records)
+  pub read : HasRead None reading after given (good None given).records
+  pub text : HasPrinted old.written new printer.text.items (lines_by asking (good None given).records)
   pub whole : IsTrue before.told → before.whole ≡ given
 
 -- Why it was not: the first malformed place, before which all lines were written, a failed read, a failed
 -- write, or no memory.
 abbrev pub StopsReadTo : Asking → SourceSeen → SourceSeen → SinkSeen → SinkSeen → StackFault → Type 0
 StopsReadTo asking before after old new (Capture (Malformed at what)) = (after.faults ≡ before.faults)
-    × (IsTrue before.told → (good before.whole).bad ≡ Some (bad_at at what))
-    × (IsTrue before.told → IsTrue old.told → new.written ≡ old.written ++ lines_by asking (good before.whole).records)
+    × (IsTrue before.told → (good None before.whole).bad ≡ Some (bad_at at what))
+    × (IsTrue before.told → IsTrue old.told → new.written ≡ old.written ++ lines_by asking (good None before.whole).records)
 StopsReadTo asking before after old new (Capture Unread) = Rose before.faults after.faults
 StopsReadTo asking before after old new (Capture OutOfMemory) = Unit {0}
 StopsReadTo asking before after old new Unwritten = Rose old.faults new.faults
@@ -84,7 +84,7 @@ pub record PrintsWhole (asking : Asking) (before after : SourceSeen) (old new : 
   pub faults : after.faults ≡ before.faults
   pub quiet : new.faults ≡ old.faults
   pub given : List ℕ
-  pub sound : (good given).bad ≡ None
+  pub sound : (good None given).bad ≡ None
   pub written : IsTrue old.told → new.written ≡ old.written ++ report_by asking given
   pub whole : IsTrue before.told → before.whole ≡ given
 

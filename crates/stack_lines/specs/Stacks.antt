@@ -57,4 +57,4 @@ last_line_of (Some bad) cut = []
 -- The lines of a capture file: those of the records before its first malformed place, and where it has
 -- none, the last line.
 abbrev pub stack_report : (port : ℕ) → Option FieldRef → List ℕ → List ℕ
-stack_report port field bytes = stack_lines port field (good bytes).records ++ last_line_of (good bytes).bad (good bytes).cut
+stack_report port field bytes = stack_lines port field (good None bytes).records ++ last_line_of (good None bytes).bad (good None bytes).cut

@@ -1,6 +1,6 @@
 //! The lines of a capture, written while it is read.
 
-ghost use Rattle.std.specs.Prelude.{◌≡◌, [], IsTrue, MatchResult};
+ghost use Rattle.std.specs.Prelude.{◌≡◌, [], None, IsTrue, MatchResult};
 ghost use Rattle.ds_base.specs.Gain.{GainsPrefix};
 ghost use Rattle.ds_base.specs.Outside.{IsFresh, FolderStays, SourceStays, SinkStays};
 ghost use Rattle.input_files.specs.Reading.{HasRead};
@@ -59,7 +59,7 @@ fn print_capture<S: Source, O: Sink>(
         (λ _. PrintsWhole asking (S.seen source.old) (S.seen source.new) (O.seen out.old) (O.seen out.new))
         (StopsReadTo asking (S.seen source.old) (S.seen source.new) (O.seen out.old) (O.seen out.new)) }
 {
-    let mut reading = CaptureReading::new(alloc, PIECE)?;
+    let mut reading = CaptureReading::new(alloc, None, PIECE)?;
     let mut printer = Printer::new(alloc, asking);
     print_lines(source, &mut reading, &mut printer, out)
 }
@@ -71,7 +71,7 @@ fn print_lines<S: Source, O: Sink>(
     printer: &mut Printer,
     out: &mut O,
 ) -> Result<(), StackFault>
-    requires unread { HasRead reading.old (S.seen source.old) [] [] }
+    requires unread { HasRead None reading.old (S.seen source.old) [] [] }
     requires empty { printer.old.text.items ≡ [] }
     ensures stays { SourceStays (S.seen source.old) (S.seen source.new) }
     ensures out_stays { SinkStays (O.seen out.old) (O.seen out.new) }
@@ -105,12 +105,12 @@ fn print_records<S: Source, O: Sink>(
     printer: &mut Printer,
     out: &mut O,
 ) -> Result<(), StackFault>
-    requires unread { HasRead reading.old (S.seen source.old) [] [] }
+    requires unread { HasRead None reading.old (S.seen source.old) [] [] }
     requires empty { printer.old.text.items ≡ [] }
     ensures stays { SourceStays (S.seen source.old) (S.seen source.new) }
     ensures out_stays { SinkStays (O.seen out.old) (O.seen out.new) }
     ensures prefix { IsTrue (S.seen source.old).told →
-        HasBegun (O.seen out.old).written (O.seen out.new) (lines_by printer.old.asking (good (S.seen source.old).whole).records) }
+        HasBegun (O.seen out.old).written (O.seen out.new) (lines_by printer.old.asking (good None (S.seen source.old).whole).records) }
     ensures ends { MatchResult result
         (λ _. IsReadTo printer.old.asking (S.seen source.old) (S.seen source.new) reading.new printer.new (O.seen out.old) (O.seen out.new))
         (StopsReadTo printer.old.asking (S.seen source.old) (S.seen source.new) (O.seen out.old) (O.seen out.new)) }

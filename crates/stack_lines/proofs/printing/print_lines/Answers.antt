@@ -1,4 +1,4 @@
-use Rattle.std.proofs.Common.{◌∙◌, List, ℕ, sym, ap, subst}
+use Rattle.std.proofs.Common.{None, ◌∙◌, List, ℕ, sym, ap, subst}
 use Rattle.ds_base.specs.Gain.{GainsPrefix}
 use Rattle.pcap_reader.specs.Good.{good}
 use Rattle.stack_lines.specs.Printing.{lines_by, report_by}
@@ -13,17 +13,17 @@ returns-in_err-end-in-Ok-clause-prefix g c told out =
     let read = c.in_ok-print_records.ensures.ends in
     let asking = c.args.printer.now.asking in
     let start = (g.O.Sink.seen c.args.out.now).written in
-    let whole = c.in-Ok.ensures.whole (g.S.Source.seen c.print_records.new.source) read.given (good read.given).records read.read in
+    let whole = c.in-Ok.ensures.whole None (g.S.Source.seen c.print_records.new.source) read.given (good None read.given).records read.read in
     let P : List ℕ → Type 0 = λ text. GainsPrefix start (g.O.Sink.seen c.end.new.out).written text in
     subst P (whole_report asking read.given c.in-Ok.tail.cut whole.0 whole.2 ∙ ap (λ bytes. report_by asking bytes) (sym (read.whole told)))
-    (c.end.ensures.prefix start (lines_by asking (good read.given).records) read.text out)
+    (c.end.ensures.prefix start (lines_by asking (good None read.given).records) read.text out)
 
 pub returns-in_ok-end-in-Ok-clause-prefix : goal.returns-in_ok-end-in-Ok-clause-prefix
 returns-in_ok-end-in-Ok-clause-prefix g c told out =
     let read = c.in_ok-print_records.ensures.ends in
     let asking = c.args.printer.now.asking in
     let start = (g.O.Sink.seen c.args.out.now).written in
-    let whole = c.in-Ok.ensures.whole (g.S.Source.seen c.print_records.new.source) read.given (good read.given).records read.read in
+    let whole = c.in-Ok.ensures.whole None (g.S.Source.seen c.print_records.new.source) read.given (good None read.given).records read.read in
     let P : List ℕ → Type 0 = λ text. GainsPrefix start (g.O.Sink.seen c.end.new.out).written text in
     subst P (whole_report asking read.given c.in-Ok.tail.cut whole.0 whole.2 ∙ ap (λ bytes. report_by asking bytes) (sym (read.whole told)))
-    (c.end.ensures.prefix start (lines_by asking (good read.given).records) read.text out)
+    (c.end.ensures.prefix start (lines_by asking (good None read.given).records) read.text out)

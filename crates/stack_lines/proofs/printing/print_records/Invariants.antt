@@ -1,4 +1,4 @@
-use Rattle.std.proofs.Common.{ℕ, List, ◌≡◌}
+use Rattle.std.proofs.Common.{None, ℕ, List, ◌≡◌}
 use Rattle.ds_base.specs.Outside.{SourceStays, SinkStays}
 use Rattle.input_files.specs.Reading.{HasRead, work_left}
 use Rattle.pcap_reader.specs.Captured.{Captured}
@@ -13,7 +13,7 @@ invariant-records g l = record {
   faults : (g.S.Source.seen l.source).faults ≡ (g.S.Source.seen l.fn.source).faults;
   quiet : (g.O.Sink.seen l.out).faults ≡ (g.O.Sink.seen l.fn.out).faults;
   asking : l.printer.asking ≡ l.fn.printer.asking;
-  printed : (bytes : List ℕ) × (given : List Captured) × HasRead l.reading (g.S.Source.seen l.source) bytes given
+  printed : (bytes : List ℕ) × (given : List Captured) × HasRead None l.reading (g.S.Source.seen l.source) bytes given
       × HasPrinted (g.O.Sink.seen l.fn.out).written (g.O.Sink.seen l.out) l.printer.text.items (lines_by l.fn.printer.asking given);
 }
 
