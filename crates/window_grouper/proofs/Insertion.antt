@@ -1,13 +1,11 @@
 -- A list whose stamps differ has one list in stamp order, which insertion computes.
-use Rattle.std.proofs.Common.{ℕ, Bool, true, false, cond, List, [], ◌∷◌, ◌++◌, ◌≡◌, ◌<◌, ◌+◌, ◌⊎◌, refl, sym, ap, subst, ◌∙◌, arith, ⊎_elim, inl, inr, length, drop, get_or}
-use Rattle.std.specs.Prelude.{Some, slice_get}
+use Rattle.std.proofs.Common.{ℕ, Bool, true, false, cond, List, [], ◌∷◌, ◌++◌, ◌≡◌, ◌<◌, ◌⊎◌, refl, sym, ap, subst, ◌∙◌, arith, ⊎_elim, inl, inr, length, get_or}
 use Rattle.std.specs.List.{Contains}
 use Rattle.std.specs.List.Sorted.{IsPermutation}
 use Rattle.std.proofs.lemmas.Bool.{cases_Bool}
-use Rattle.std.proofs.lemmas.List.{drop_more, append-nil}
+use Rattle.std.proofs.lemmas.List.{append-nil}
 use Rattle.std.proofs.lemmas.List.Elements.{Contains-append_right, Contains-append_cases}
 use Rattle.std.proofs.lemmas.List.Sorted.{IsPermutation-refl, IsPermutation-cons, IsPermutation-sym, IsPermutation-trans, IsPermutation-middle, Contains-permutation, length_permutation}
-use Rattle.std.proofs.lemmas.Option.{slice_get_within, get_or_from_slice_get}
 use Rattle.ds_base.specs.Order.{Precedes, PrecedesAll, InStampOrder}
 use Rattle.ds_base.specs.declared.stamp.Stamp.{Stamp}
 use Rattle.ds_base.specs.declared.summary.Summary.{Summary}
@@ -22,9 +20,6 @@ precedes_all-trans a b (s ∷ ss) h k = (precedes_trans a b s.at h k.0, precedes
 
 in_order-front : (s t : Summary) (ss : List Summary) → Precedes s.at t.at → InStampOrder (t ∷ ss) → InStampOrder (s ∷ t ∷ ss)
 in_order-front s t ss h k = ((h, precedes_all-trans s.at t.at ss h k.0), k)
-
-pub drop-at : (l : List Summary) (i : ℕ) (s : Summary) → slice_get l i ≡ Some s → drop i l ≡ s ∷ drop (i + 1) l
-drop-at l i s h = drop_more l i s (slice_get_within l i s h) ∙ ap (λ (x : Summary). x ∷ drop (i + 1) l) (get_or_from_slice_get l i s s h)
 
 -- ---- stamps that differ
 

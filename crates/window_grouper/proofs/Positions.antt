@@ -1,5 +1,5 @@
 -- The places of a list's summaries.
-use Rattle.std.proofs.Common.{ℕ, List, [], ◌∷◌, ◌++◌, ◌≡◌, ◌<◌, ◌+◌, ◌∙◌, zero, suc, refl, ap, sym, subst, arith, length, take, get_or}
+use Rattle.std.proofs.Common.{ℕ, List, [], ◌∷◌, ◌++◌, ◌≡◌, ◌<◌, ◌+◌, ◌∙◌, ap, sym, subst, arith, length, take, get_or}
 use Rattle.std.specs.Prelude.{Some, slice_get}
 use Rattle.std.proofs.lemmas.List.{take_more}
 use Rattle.std.proofs.lemmas.Option.{slice_get_within, get_or_from_slice_get, slice_get-get_or}
@@ -27,9 +27,3 @@ places_more (d ∷ ds) ps i h within =
     subst (ArePlaces l (ps ++ i ∷ [])) (sym (take-at l i (get_or l i d) at)) (places-push l ps (take i l) i (get_or l i d) h at)
 
 -- the place at i holds the summary at i
-pub place_at : (l : List Summary) (ps : List ℕ) (ss : List Summary) (i : ℕ) → ArePlaces l ps ss → i < length ps
-    → (s : Summary) × (slice_get ss i ≡ Some s) × (slice_get l (get_or ps i 0) ≡ Some s)
-place_at l [] ss i h within = absurd (omega arith)
-place_at l (q ∷ qs) [] i h within = absurd h
-place_at l (q ∷ qs) (x ∷ xs) zero h within = (x, refl, h.0)
-place_at l (q ∷ qs) (x ∷ xs) (suc i) h within = place_at l qs xs i h.1 (omega arith)

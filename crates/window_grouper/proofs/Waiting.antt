@@ -1,5 +1,5 @@
 -- The fields of a grouper, where a summary comes to wait, is placed, or a group is given out.
-use Rattle.std.proofs.Common.{ℕ, Bool, true, false, List, [], ◌∷◌, ◌++◌, ◌≡◌, ◌≤◌, ◌<◌, ◌+◌, Option, Some, None, refl, sym, ap, subst, ◌∙◌, arith, ⊎_elim, length, map, ◌⊎◌, inl, inr}
+use Rattle.std.proofs.Common.{ℕ, Bool, true, false, List, [], ◌∷◌, ◌++◌, ◌≡◌, ◌≤◌, ◌<◌, Option, Some, None, refl, sym, ap, subst, ◌∙◌, arith, ⊎_elim, length, map, ◌⊎◌, inl, inr}
 use Rattle.std.specs.Prelude.{slice_get, is_some, set, get_or, IfSome, IfNone, IsSome, ◌↔◌}
 use Rattle.std.specs.BTreeMap.{insert_entry, is_at}
 use Rattle.std.specs.Global.{Box}
@@ -8,7 +8,7 @@ use Rattle.std.specs.Map.{lookup, values_of}
 use Rattle.std.specs.Ordering.{MatchOrdering, is_eq, match_ordering}
 use Rattle.std.specs.declared.cmp.Ordering.{Ordering}
 use Rattle.std.specs.declared.cmp.Ordering.TheVariants.{Less, Equal, Greater}
-use Rattle.std.proofs.lemmas.Bool.{cases_Bool, both_ways, cases_lt, lt-ltb, le-ltb}
+use Rattle.std.proofs.lemmas.Bool.{cases_Bool, both_ways, cases_lt}
 use Rattle.ds_base.specs.Copies.{Copies}
 use Rattle.ds_base.specs.Fronts.{upto, onward}
 use Rattle.ds_base.specs.Order.{Precedes, InStampOrder}
@@ -16,10 +16,10 @@ use Rattle.ds_base.specs.declared.stamp.Stamp.{Stamp}
 use Rattle.ds_base.specs.declared.summary.Summary.{Summary}
 use Rattle.watermarks.specs.Least.{least_mark, lesser, under}
 use Rattle.watermarks.proofs.Lesser.{allowed_late, least_rises, under_earlier}
-use Rattle.window_grouper.specs.Closed.{is_closed, ends_by}
+use Rattle.window_grouper.specs.Closed.{is_closed}
 use Rattle.window_grouper.specs.Grouping.{Grouping, is_past, MayCome, placed_all, marked, with_summary, with_group, StandsFor, IsSettled}
 use Rattle.window_grouper.specs.Open.{Open}
-use Rattle.window_grouper.specs.Over.{BegunBy, EndsBefore, ReachesTo, FirstIsOver, FirstIsOpen}
+use Rattle.window_grouper.specs.Over.{BegunBy}
 use Rattle.window_grouper.specs.Placing.{takes, single, grown, placed, HaveBegun}
 use Rattle.window_grouper.specs.Sorted.{DiffersFromAll, is_before, insert_by_stamp}
 use Rattle.window_grouper.specs.Waiting.{opened, seen, IsTidy, IsKept}
@@ -193,23 +193,6 @@ tidy_marked old new gs es more h = record {
 
 -- ---- the first summary that waits is placed
 
-pub kept_self : (bound : Option ℕ) (groups : Open) (es : List (Stamp × Summary)) → IsTidy bound groups.held es → IsKept bound groups es groups es
-kept_self bound groups es h = record { window = refl; tidy = h; held = refl; waiting = refl }
-
-pub kept_same : (bound : Option ℕ) (old new : Open) (es : List (Stamp × Summary)) → new ≡ old → IsTidy bound old.held es → IsKept bound old es new es
-kept_same bound old new es same h = subst (λ (o : Open). IsKept bound old es o es) (sym same) (kept_self bound old es h)
-
-pub kept_trans : (bound : Option ℕ) (a b c : Open) (es fs hs : List (Stamp × Summary)) → IsKept bound a es b fs → IsKept bound b fs c hs → IsKept bound a es c hs
-kept_trans bound a b c es fs hs h k = record {
-  window = k.window ∙ h.window;
-  tidy = k.tidy;
-  held = ap (λ (w : ℕ). placed_all w c.held (upto (at_time (under bound)) (values_of hs))) (sym h.window)
-      ∙ k.held
-      ∙ ap (λ (w : ℕ). placed_all w b.held (upto (at_time (under bound)) (values_of fs))) h.window
-      ∙ h.held;
-  waiting = k.waiting ∙ h.waiting;
-}
-
 begun_all : (window : ℕ) (s : Summary) (gs : List Copies) (ss : List Summary) → AllByRecursion (λ x. s.at.time ≤ x.at.time) ss
     → AllByRecursion (λ x. HaveBegun x.at.time gs) ss → AllByRecursion (λ x. HaveBegun x.at.time (placed window s gs)) ss
 begun_all window s gs [] up h = tt
@@ -264,32 +247,7 @@ none_past bound (e ∷ es) k s at late =
     let own : under bound e.1.at.time ≡ false = ap (λ (x : Stamp × Summary). under bound x.1.at.time) same ∙ late in
     rw own refl
 
-pub none_waits : (bound : Option ℕ) (es : List (Stamp × Box Summary)) → (0 < length es → ⊥) → upto (at_time (under bound)) (values_of (opened es)) ≡ []
-none_waits bound [] none = refl
-none_waits bound (e ∷ es) none = absurd (none (omega arith))
-
 -- ---- the first group
-
-pub over_closed : (window m : ℕ) (g : Copies) (gs : List Copies) → FirstIsOver window m (g ∷ gs) → is_closed (under (Some m)) window g ≡ true
-over_closed window m g gs h = by_members g.members h where
-  by_members : (k : List Summary) → EndsBefore window m k → ends_by (under (Some m)) window k ≡ true
-  by_members [] o = refl
-  by_members (f ∷ fs) o = lt-ltb (f.at.time + window) m o
-
-pub ended_closed : (window : ℕ) (g : Copies) → is_closed (under None) window g ≡ true
-ended_closed window g = by_members g.members where
-  by_members : (k : List Summary) → ends_by (under None) window k ≡ true
-  by_members [] = refl
-  by_members (f ∷ fs) = refl
-
-pub open_settled : (window m : ℕ) (gs : List Copies) → FirstIsOpen window m gs → upto (is_closed (under (Some m)) window) gs ≡ []
-open_settled window m [] h = refl
-open_settled window m (g ∷ gs) h =
-    let own : is_closed (under (Some m)) window g ≡ false = by_members g.members h in
-    rw own refl where
-      by_members : (k : List Summary) → ReachesTo window m k → ends_by (under (Some m)) window k ≡ false
-      by_members [] o = absurd o
-      by_members (f ∷ fs) o = le-ltb (f.at.time + window) m o
 
 pub if_some_both : {X : Type 0} (r : Option X) (P Q R : X → Type 0) → ((x : X) → P x → Q x → R x) → IfSome r P → IfSome r Q → IfSome r R
 if_some_both None P Q R f p q = tt
@@ -320,21 +278,6 @@ seen_given marks old new ss g none same held =
     ∙ ap (λ (gs : List Copies). record { window = old.window; marks = marks; held = gs; waiting = onward (at_time (is_past marks)) ss }) held
     ∙ ap (λ (w : ℕ). record { window = w; marks = marks; held = g ∷ new.held; waiting = onward (at_time (is_past marks)) ss }) (sym same)
     ∙ ap (with_group g) (sym (seen_placed marks new ss none))
-
-rest_begun : (g : Copies) (gs : List Copies) (ss : List Summary) → AllByRecursion (λ x. HaveBegun x.at.time (g ∷ gs)) ss
-    → AllByRecursion (λ x. HaveBegun x.at.time gs) ss
-rest_begun g gs [] h = tt
-rest_begun g gs (x ∷ ss) h = (h.0.1, rest_begun g gs ss h.1)
-
-pub tidy_given : (bound : Option ℕ) (old new : List Copies) (g : Copies) (es : List (Stamp × Summary)) → old ≡ g ∷ new → IsTidy bound old es → IsTidy bound new es
-tidy_given bound old new g es e h =
-    let all : IsTidy bound (g ∷ new) es = subst (λ (gs : List Copies). IsTidy bound gs es) e h in
-    record {
-      stamped = all.stamped;
-      ordered = all.ordered;
-      begun = rest_begun g new (values_of es) all.begun;
-      to_come = λ t late. (all.to_come t late).1;
-    }
 
 -- ---- the calls of a grouper
 
