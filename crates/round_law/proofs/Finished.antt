@@ -12,7 +12,7 @@ use Rattle.node_frames.specs.Link.{Opens, SpellsAll, framed, wire_of}
 use Rattle.node_frames.proofs.Bytes.{length-bytes_of}
 use Rattle.round_law.specs.Links.{IsCounted, Sender, Receiver, ring_bytes, FinishIsLast, IsSender, IsReceiver, IsGranted, HasSentAll, HasTakenAll, AreJoined}
 use Rattle.round_law.specs.Waits.{IsDone}
-use Rattle.round_law.specs.Rows.{AreCounted, IsOrderly, HasSoundEnds, OffersFew, StandsStill, frames_beside}
+use Rattle.round_law.specs.Rows.{AreCounted, IsOrderly, HasSoundEnds, OffersFew, StandsStill, PipesStay, frames_beside}
 use Rattle.round_law.specs.Network.{Leads}
 use Rattle.round_law.specs.Needed.{pair_of, rank_of, SomeRoundIsStill}
 use Rattle.round_law.proofs.Needed.{all_one, all_none}
@@ -69,10 +69,10 @@ spelled : SpellsAll (Finish ∷ []) end_bytes []
 spelled = ([], opens, refl)
 
 abbrev sent : Sender
-sent = record { offered = Finish ∷ []; waiting = 0; put = end_bytes; left = []; held = 0; back = 1; room = ring_bytes; coins = 0 }
+sent = record { offered = Finish ∷ []; waiting = 0; put = end_bytes; left = []; held = 0; back = 1; room = ring_bytes; coins = 0; put_silent = 0; back_silent = 0 }
 
 abbrev taken : Receiver
-taken = record { got = end_bytes; given = Finish ∷ []; box = []; paid = 1; owed = 0; items = 0; slots = 1 }
+taken = record { got = end_bytes; given = Finish ∷ []; box = []; paid = 1; owed = 0; items = 0; slots = 1; got_silent = 0; paid_silent = 0 }
 
 sent_sound : IsSender 1 sent
 sent_sound = record { spelled = subst (λ (bytes : List ℕ). SpellsAll (Finish ∷ []) bytes []) (sym (append-nil end_bytes)) spelled; counted = refl; within = omega arith }
@@ -136,9 +136,11 @@ still n = record {
   wrote_all = refl;
   in_count = refl;
   out_count = refl;
-  ins = λ j less. record { got = refl; given = refl; paid = refl };
-  outs = λ k less. record { put = refl; back = refl };
+  given = λ j less. refl;
 }
+
+pipes : (n : Bool) → PipesStay (pair_of sent taken n) (pair_of sent taken n)
+pipes n = record { ins = λ j less. record { got = refl; paid = refl }; outs = λ k less. record { put = refl; back = refl } }
 
 done : (n : Bool) → IsDone (pair_of sent taken n)
 done false = record { ins = all_none HasTakenAll; outs = all_one HasSentAll sent (record { finish = refl; left = refl; held = refl }); wrote_all = refl }
@@ -155,6 +157,6 @@ some_round_is_still = (
     sound_after = λ n there. sound n;
     counted = λ n there. counted n;
     counted_after = λ n there. counted n;
-    rests = λ n there. inr (record { still = still n; done = done n; orderly = orderly n; few = few n });
+    rests = λ n there. record { row = inr (record { still = still n; done = done n; orderly = orderly n; few = few n }); pipes = pipes n };
   },
 )

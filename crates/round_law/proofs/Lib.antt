@@ -11,3 +11,4 @@ pub mod Starts
 pub mod Finished
 pub mod Turns
 pub mod Quiet
+pub mod Looked

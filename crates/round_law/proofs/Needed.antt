@@ -1,5 +1,5 @@
 -- Two nodes that are stuck where a clause of `IsIdle` is dropped.
-use Rattle.std.proofs.Common.{ℕ, zero, suc, ◌+◌, ◌-◌, ◌*◌, ◌<◌, ◌≤◌, ◌≡◌, ◌⊎◌, ◌++◌, Bool, true, false, List, [], ◌∷◌, length, refl, sym, subst, ◌∙◌, inl, inr, ⊎_elim, arith, lit<, append-nil, length-append}
+use Rattle.std.proofs.Common.{◌^◌, ℕ, zero, suc, ◌+◌, ◌-◌, ◌*◌, ◌<◌, ◌≤◌, ◌≡◌, ◌⊎◌, ◌++◌, Bool, true, false, List, [], ◌∷◌, length, refl, sym, subst, ◌∙◌, inl, inr, ⊎_elim, arith, lit<, append-nil, length-append}
 use Rattle.std.specs.Prelude.{IsTrue, All}
 use Rattle.std.proofs.lemmas.Bool.{false≢true}
 use Rattle.node_frames.specs.declared.frame.Frame.{Frame}
@@ -10,12 +10,12 @@ use Rattle.node_frames.specs.Fields.{bytes_of}
 use Rattle.node_frames.specs.Table.{payload_of}
 use Rattle.node_frames.specs.Link.{Opens, SpellsAll, framed}
 use Rattle.node_frames.proofs.Bytes.{length-bytes_of}
-use Rattle.round_law.specs.Links.{IsCounted, Sender, Receiver, ring_bytes, has_finish, FinishIsLast, OpensNoFrame, IsSender, IsReceiver, IsGranted, HasSentAll, HasTakenAll, AreJoined, new_sender, new_receiver}
-use Rattle.round_law.specs.Waits.{in_at, PipeEnd, sure_at, NoneWaits, Waits, IsDone}
+use Rattle.round_law.specs.Links.{IsCounted, Sender, Receiver, ring_bytes, has_finish, FinishIsLast, OpensNoFrame, IsSender, IsReceiver, IsGranted, HasSentAll, HasTakenAll, AreJoined}
+use Rattle.round_law.specs.Waits.{Node, IsIdle, in_at, PipeEnd, AnsweredIn, NoneWaits, Waits, IsDone}
 use Rattle.round_law.specs.Waits.PipeEnd.{DataOut, CreditOut, DataIn, CreditIn}
 use Rattle.round_law.specs.Rows.{AreCounted, IsOrderly, HasSoundEnds, OffersFew, frames_beside}
 use Rattle.round_law.specs.Network.{Leads}
-use Rattle.round_law.specs.Needed.{Clause, clause_of, IsIdleBut, sending, receiving, pair_of, rank_of, IsStuckWithout, EachClauseIsNeeded}
+use Rattle.round_law.specs.Needed.{SomeNodeIsIdle, Clause, clause_of, IsIdleBut, sending, receiving, pair_of, rank_of, IsStuckWithout, EachClauseIsNeeded}
 use Rattle.round_law.specs.Needed.Clause.{SomeEnd, NoRoom, NoCoins, NoItems, NoSlots, NoFrame}
 use Rattle.round_law.proofs.Ends.{no_frame_opens_nothing}
 
@@ -39,6 +39,8 @@ record Sends (clause : Clause) (s : Sender) : Type 0 where
   waits : ¬ (clause ≡ SomeEnd) → (0 < length s.left) ⊎ (0 < s.waiting) × (s.held ≡ 1)
   room : ¬ (clause ≡ NoRoom) → 0 < length s.left → s.room ≡ 0
   coins : ¬ (clause ≡ NoCoins) → 0 < s.waiting → s.coins ≡ 0
+  put_silent : s.put_silent ≡ 2 ^ 64 - 1
+  back_silent : s.back_silent ≡ 2 ^ 64 - 1
 
 record Takes (clause : Clause) (r : Receiver) : Type 0 where
   sound : IsReceiver r
@@ -49,6 +51,8 @@ record Takes (clause : Clause) (r : Receiver) : Type 0 where
   items : ¬ (clause ≡ NoItems) → r.items ≡ 0
   slots : ¬ (clause ≡ NoSlots) → 0 < r.owed → r.slots ≡ 0
   empty : ¬ (clause ≡ NoFrame) → OpensNoFrame r.box
+  got_silent : r.got_silent ≡ 2 ^ 64 - 1
+  paid_silent : r.paid_silent ≡ 2 ^ 64 - 1
 
 sender_idles : (clause : Clause) (s : Sender) → Sends clause s → IsIdleBut clause 1 (sending s)
 sender_idles clause s sends = record { waits = waits; answered = answered; empty = λ kept none j less. absurd (omega arith) }
@@ -60,12 +64,12 @@ sender_idles clause s sends = record { waits = waits; answered = answered; empty
         (λ (w : (0 < s.waiting) × (s.held ≡ 1)). (CreditOut 0, (omega arith, inl w)))
         (sends.waits kept)
 
-    answered : (end : PipeEnd) → ¬ (clause ≡ clause_of end) → Waits 1 (sending s) end → sure_at (sending s) end ≡ 0
-    answered (DataOut zero) kept (less, some) = sends.room kept some
+    answered : (end : PipeEnd) → ¬ (clause ≡ clause_of end) → Waits 1 (sending s) end → AnsweredIn (sending s) (sending s) end
+    answered (DataOut zero) kept (less, some) = (sends.room kept some, inr (sends.put_silent, refl))
     answered (DataOut (suc k)) kept (less, some) = absurd (omega arith)
     answered (CreditOut zero) kept (less, wants) =
         ⊎_elim
-        (λ (w : (0 < s.waiting) × (s.held ≡ 1)). sends.coins kept w.0)
+        (λ (w : (0 < s.waiting) × (s.held ≡ 1)). (sends.coins kept w.0, inr (sends.back_silent, refl)))
         (λ (w : IsTrue (has_finish s.offered) × (0 < s.held)). absurd (false≢true (sym sends.open_yet ∙ w.0)))
         wants
     answered (CreditOut (suc k)) kept (less, wants) = absurd (omega arith)
@@ -78,12 +82,12 @@ receiver_idles clause r takes = record { waits = waits; answered = answered; emp
     waits : ¬ (clause ≡ SomeEnd) → (end : PipeEnd) × Waits 1 (receiving r) end
     waits kept = (DataIn 0, (omega arith, takes.open_yet, all_none (λ (s : Sender). s.waiting ≡ 0)))
 
-    answered : (end : PipeEnd) → ¬ (clause ≡ clause_of end) → Waits 1 (receiving r) end → sure_at (receiving r) end ≡ 0
+    answered : (end : PipeEnd) → ¬ (clause ≡ clause_of end) → Waits 1 (receiving r) end → AnsweredIn (receiving r) (receiving r) end
     answered (DataOut k) kept (less, some) = absurd (omega arith)
     answered (CreditOut k) kept (less, wants) = absurd (omega arith)
-    answered (DataIn zero) kept (less, open_yet, none) = takes.items kept
+    answered (DataIn zero) kept (less, open_yet, none) = (takes.items kept, inr (takes.got_silent, refl))
     answered (DataIn (suc j)) kept (less, open_yet, none) = absurd (omega arith)
-    answered (CreditIn zero) kept (less, some) = takes.slots kept some
+    answered (CreditIn zero) kept (less, some) = (takes.slots kept some, inr (takes.paid_silent, refl))
     answered (CreditIn (suc j)) kept (less, some) = absurd (omega arith)
 
     empty : ¬ (clause ≡ NoFrame) → NoneWaits (receiving r) → (j : ℕ) → j < 1 → has_finish (in_at (receiving r) j).given ≡ false → OpensNoFrame (in_at (receiving r) j).box
@@ -198,7 +202,7 @@ spelled_put = subst (λ (bytes : List ℕ). SpellsAll (a_frame ∷ []) bytes [])
 
 -- a frame was offered, held back by one credit, and a second waits; its bytes are put or left
 abbrev held_by : (put left : List ℕ) (waiting room coins : ℕ) → Sender
-held_by put left waiting room coins = record { offered = a_frame ∷ []; waiting = waiting; put = put; left = left; held = 1; back = 0; room = room; coins = coins }
+held_by put left waiting room coins = record { offered = a_frame ∷ []; waiting = waiting; put = put; left = left; held = 1; back = 0; room = room; coins = coins; put_silent = 2 ^ 64 - 1; back_silent = 2 ^ 64 - 1 }
 
 held_sound : (put left : List ℕ) (waiting room coins : ℕ) → SpellsAll (a_frame ∷ []) (put ++ left) [] → IsSender 1 (held_by put left waiting room coins)
 held_sound put left waiting room coins h = record { spelled = h; counted = refl; within = omega arith }
@@ -216,11 +220,13 @@ waits_for_credit clause room coins none = record {
   waits = λ kept. inr (omega arith, refl);
   room = λ kept some. absurd (omega arith);
   coins = λ kept some. none kept;
+  put_silent = refl;
+  back_silent = refl;
 }
 
 -- the frame was taken
 abbrev took : (paid owed slots : ℕ) → Receiver
-took paid owed slots = record { got = a_bytes; given = a_frame ∷ []; box = []; paid = paid; owed = owed; items = 0; slots = slots }
+took paid owed slots = record { got = a_bytes; given = a_frame ∷ []; box = []; paid = paid; owed = owed; items = 0; slots = slots; got_silent = 2 ^ 64 - 1; paid_silent = 2 ^ 64 - 1 }
 
 has_taken : (clause : Clause) (paid owed slots : ℕ) → paid + owed ≡ 1 → (¬ (clause ≡ NoSlots) → 0 < owed → slots ≡ 0) → Takes clause (took paid owed slots)
 has_taken clause paid owed slots granted none = record {
@@ -232,11 +238,13 @@ has_taken clause paid owed slots granted none = record {
   items = λ kept. refl;
   slots = none;
   empty = λ kept. no_frame_opens_nothing;
+  got_silent = refl;
+  paid_silent = refl;
 }
 
 -- nothing was taken
 abbrev took_none : (got box : List ℕ) (items : ℕ) → Receiver
-took_none got box items = record { got = got; given = []; box = box; paid = 0; owed = 0; items = items; slots = 1 }
+took_none got box items = record { got = got; given = []; box = box; paid = 0; owed = 0; items = items; slots = 1; got_silent = 2 ^ 64 - 1; paid_silent = 2 ^ 64 - 1 }
 
 has_taken_none : (clause : Clause) (bytes : List ℕ) (items : ℕ) → (¬ (clause ≡ NoItems) → items ≡ 0) → (¬ (clause ≡ NoFrame) → OpensNoFrame bytes) → Takes clause (took_none bytes bytes items)
 has_taken_none clause bytes items no_items no_frame = record {
@@ -248,6 +256,8 @@ has_taken_none clause bytes items no_items no_frame = record {
   items = no_items;
   slots = λ kept some. absurd (omega arith);
   empty = no_frame;
+  got_silent = refl;
+  paid_silent = refl;
 }
 
 -- ---- the links
@@ -264,14 +274,18 @@ empty_ring s r same room items coins slots = record {
   slots = slots;
 }
 
+-- nothing was offered
+abbrev idle_sender : Sender
+idle_sender = record { offered = []; waiting = 0; put = []; left = []; held = 0; back = 0; room = ring_bytes; coins = 0; put_silent = 2 ^ 64 - 1; back_silent = 2 ^ 64 - 1 }
+
 -- ---- one network for each clause
 
 -- nothing was ever offered
 waits_on_nothing : EachClauseIsNeeded SomeEnd
 waits_on_nothing = (
-  new_sender,
-  new_receiver 1,
-  is_stuck SomeEnd new_sender (new_receiver 1) (empty_ring new_sender (new_receiver 1) refl refl refl refl refl)
+  idle_sender,
+  took_none [] [] 0,
+  is_stuck SomeEnd idle_sender (took_none [] [] 0) (empty_ring idle_sender (took_none [] [] 0) refl refl refl refl refl)
       (record {
         sound = record { spelled = refl; counted = refl; within = omega arith };
         few = omega arith;
@@ -280,6 +294,8 @@ waits_on_nothing = (
         waits = λ kept. absurd (kept refl);
         room = λ kept some. absurd (omega arith);
         coins = λ kept some. absurd (omega arith);
+        put_silent = refl;
+        back_silent = refl;
       })
       (has_taken_none SomeEnd [] 0 (λ kept. refl) (λ kept. no_frame_opens_nothing)),
 )
@@ -288,8 +304,8 @@ waits_on_nothing = (
 leaves_room : EachClauseIsNeeded NoRoom
 leaves_room = (
   held_by [] a_bytes 0 ring_bytes 0,
-  new_receiver 1,
-  is_stuck NoRoom (held_by [] a_bytes 0 ring_bytes 0) (new_receiver 1) (empty_ring (held_by [] a_bytes 0 ring_bytes 0) (new_receiver 1) refl refl refl refl refl)
+  took_none [] [] 0,
+  is_stuck NoRoom (held_by [] a_bytes 0 ring_bytes 0) (took_none [] [] 0) (empty_ring (held_by [] a_bytes 0 ring_bytes 0) (took_none [] [] 0) refl refl refl refl refl)
       (record {
         sound = held_sound [] a_bytes 0 ring_bytes 0 spelled;
         few = omega arith;
@@ -298,6 +314,8 @@ leaves_room = (
         waits = λ kept. inl (let n = a_length in omega arith);
         room = λ kept. absurd (kept refl);
         coins = λ kept some. absurd (omega arith);
+        put_silent = refl;
+        back_silent = refl;
       })
       (has_taken_none NoRoom [] 0 (λ kept. refl) (λ kept. no_frame_opens_nothing)),
 )
@@ -361,3 +379,45 @@ each_clause_is_needed NoCoins = leaves_a_credit
 each_clause_is_needed NoItems = leaves_bytes
 each_clause_is_needed NoSlots = owes_a_credit
 each_clause_is_needed NoFrame = leaves_a_frame
+
+-- ---- an idle node
+
+abbrev idle_node : Node
+idle_node = receiving (took_none [] [] 0)
+
+idle_waits : (end : PipeEnd) → Waits 1 idle_node end → AnsweredIn idle_node idle_node end
+idle_waits (DataOut k) (less, some) = absurd (omega arith)
+idle_waits (CreditOut k) (less, wants) = absurd (omega arith)
+idle_waits (DataIn zero) (less, open_yet, none) = (refl, inr (refl, refl))
+idle_waits (DataIn (suc j)) (less, open_yet, none) = absurd (omega arith)
+idle_waits (CreditIn zero) (less, some) = absurd (omega arith)
+idle_waits (CreditIn (suc j)) (less, some) = absurd (omega arith)
+
+idle_empty : NoneWaits idle_node → (j : ℕ) → j < 1 → has_finish (in_at idle_node j).given ≡ false → OpensNoFrame (in_at idle_node j).box
+idle_empty none zero less open_yet = no_frame_opens_nothing
+idle_empty none (suc j) less open_yet = absurd (omega arith)
+
+is_idle : IsIdle 1 idle_node idle_node
+is_idle = record { waits = (DataIn 0, (omega arith, refl, all_none (λ (s : Sender). s.waiting ≡ 0))); answered = idle_waits; empty = idle_empty }
+
+idle_orderly : IsOrderly idle_node
+idle_orderly = record {
+  granted = all_one (λ (r : Receiver). IsCounted r.given → IsGranted r) (took_none [] [] 0) (λ few. refl);
+  taken = all_one (λ (r : Receiver). FinishIsLast r.given) (took_none [] [] 0) tt;
+  offered = all_none (λ (s : Sender). FinishIsLast s.offered);
+}
+
+pub some_node_is_idle : SomeNodeIsIdle
+some_node_is_idle = (
+  idle_node,
+  record {
+    row = inl (record {
+      still = record { read = refl; records = refl; wrote = refl; wrote_all = refl; in_count = refl; out_count = refl; given = λ j less. refl };
+      idle = is_idle;
+      orderly = idle_orderly;
+      few = λ k d less. absurd (omega arith);
+    });
+    pipes = record { ins = λ j less. record { got = refl; paid = refl }; outs = λ k less. record { put = refl; back = refl } };
+  },
+  is_idle,
+)

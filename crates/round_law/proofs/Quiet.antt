@@ -2,7 +2,7 @@
 use Rattle.std.proofs.Common.{ℕ, ◌+◌, ◌<◌, ◌++◌, List, length, sym, ap, subst, ◌∙◌, ⊎_elim, arith}
 use Rattle.round_law.specs.Links.{Sender, Receiver, ComesThrough, IsSettled, new_sender, new_receiver}
 use Rattle.round_law.specs.Waits.{Node, in_at, out_at, IsDone}
-use Rattle.round_law.specs.Rows.{StandsStill, SenderStays, ReceiverStays, IdleRow, DoneRow, IsOrderly, OffersFew, AreCounted}
+use Rattle.round_law.specs.Rows.{StandsStill, PipesStay, SenderStays, ReceiverStays, IdleRow, DoneRow, IsOrderly, OffersFew, AreCounted}
 use Rattle.round_law.specs.Pipeline.{Net, Place, parser_at, grouper_at, processor_at, node_of, IsIn, IsAlike, IsShaped, EachNode, EachLink, IsSound}
 use Rattle.round_law.specs.Pipeline.Place.{Parser, Grouper, Processor, Merge}
 use Rattle.round_law.specs.Measure.{IsInLimits, IsLimited, ReadsFew, ReadsNone}
@@ -20,15 +20,18 @@ each_after P before after alike each place there = each place (still_in after be
 module _ (captures credits : ℕ) (before after : Net) (round : IsQuietRound captures credits before after) where
   still : (place : Place) → IsIn before place → StandsStill (node_of before place) (node_of after place)
   still place there =
-      ⊎_elim (λ (row : IdleRow credits (node_of before place) (node_of after place)). row.still) (λ (row : DoneRow (node_of before place) (node_of after place)). row.still) (round.rests place there)
+      ⊎_elim (λ (row : IdleRow credits (node_of before place) (node_of after place)). row.still) (λ (row : DoneRow (node_of before place) (node_of after place)). row.still) (round.rests place there).row
+
+  pipes : (place : Place) → IsIn before place → PipesStay (node_of before place) (node_of after place)
+  pipes place there = (round.rests place there).pipes
 
   orderly : (place : Place) → IsIn before place → IsOrderly (node_of after place)
   orderly place there =
-      ⊎_elim (λ (row : IdleRow credits (node_of before place) (node_of after place)). row.orderly) (λ (row : DoneRow (node_of before place) (node_of after place)). row.orderly) (round.rests place there)
+      ⊎_elim (λ (row : IdleRow credits (node_of before place) (node_of after place)). row.orderly) (λ (row : DoneRow (node_of before place) (node_of after place)). row.orderly) (round.rests place there).row
 
   few : (place : Place) → IsIn before place → OffersFew (node_of after place)
   few place there =
-      ⊎_elim (λ (row : IdleRow credits (node_of before place) (node_of after place)). row.few) (λ (row : DoneRow (node_of before place) (node_of after place)). row.few) (round.rests place there)
+      ⊎_elim (λ (row : IdleRow credits (node_of before place) (node_of after place)). row.few) (λ (row : DoneRow (node_of before place) (node_of after place)). row.few) (round.rests place there).row
 
   back : (place : Place) → IsIn after place → IsIn before place
   back = still_in after before (alike_back before after round.alike)
@@ -69,28 +72,28 @@ module _ (captures credits : ℕ) (before after : Net) (round : IsQuietRound cap
         let outs = round.sound.shaped.parser_outs p bp in
         let ins = round.sound.shaped.grouper_ins g bg in
         still_through (out_at (parser_at before p) g) (out_at (parser_at after p) g) (in_at (grouper_at before g) p) (in_at (grouper_at after g) p)
-        ((still (Parser p) bp).outs g (omega arith)) ((still (Grouper g) bg).ins p (omega arith)) (came.to_grouper p g bp bg);
+        ((pipes (Parser p) bp).outs g (omega arith)) ((pipes (Grouper g) bg).ins p (omega arith)) (came.to_grouper p g bp bg);
     to_merge = λ p hp.
         let bp : p < length before.parsers = back (Parser p) hp in
         let outs = round.sound.shaped.parser_outs p bp in
         let ins = round.sound.shaped.merge_ins in
         subst (λ n. ComesThrough (out_at (parser_at after p) n) (in_at after.merge p)) (sym round.alike.groupers)
         (still_through (out_at (parser_at before p) (length before.groupers)) (out_at (parser_at after p) (length before.groupers)) (in_at before.merge p) (in_at after.merge p)
-        ((still (Parser p) bp).outs (length before.groupers) (omega arith)) ((still Merge tt).ins p (omega arith)) (came.to_merge p bp));
+        ((pipes (Parser p) bp).outs (length before.groupers) (omega arith)) ((pipes Merge tt).ins p (omega arith)) (came.to_merge p bp));
     to_processor = λ g q hg hq.
         let bg : g < length before.groupers = back (Grouper g) hg in
         let bq : q < length before.processors = back (Processor q) hq in
         let outs = round.sound.shaped.grouper_outs g bg in
         let ins = round.sound.shaped.processor_ins q bq in
         still_through (out_at (grouper_at before g) q) (out_at (grouper_at after g) q) (in_at (processor_at before q) g) (in_at (processor_at after q) g)
-        ((still (Grouper g) bg).outs q (omega arith)) ((still (Processor q) bq).ins g (omega arith)) (came.to_processor g q bg bq);
+        ((pipes (Grouper g) bg).outs q (omega arith)) ((pipes (Processor q) bq).ins g (omega arith)) (came.to_processor g q bg bq);
     from_processor = λ q hq.
         let bq : q < length before.processors = back (Processor q) hq in
         let outs = round.sound.shaped.processor_outs q bq in
         let ins = round.sound.shaped.merge_ins in
         subst (λ n. ComesThrough (out_at (processor_at after q) 0) (in_at after.merge (n + q))) (sym round.alike.parsers)
         (still_through (out_at (processor_at before q) 0) (out_at (processor_at after q) 0) (in_at before.merge (length before.parsers + q)) (in_at after.merge (length before.parsers + q))
-        ((still (Processor q) bq).outs 0 (omega arith)) ((still Merge tt).ins (length before.parsers + q) (omega arith)) (came.from_processor q bq));
+        ((pipes (Processor q) bq).outs 0 (omega arith)) ((pipes Merge tt).ins (length before.parsers + q) (omega arith)) (came.from_processor q bq));
   }
 
   none_read : (b a : Node) → StandsStill b a → ReadsNone b → ReadsNone a

@@ -34,7 +34,7 @@ module _ (credits : ℕ) (before after : Node) (ins : (j : ℕ) → j < length a
     owes_none j less =
         let other : In credits (in_at before j) (in_at after j) = ins j less in
         let within : (in_at after j).owed ≤ (in_at before j).slots = owes_few credits other.before other.after (in_at before j) (in_at after j) other.meets in
-        let answered : 0 < (in_at after j).owed → (in_at before j).slots ≡ 0 = λ some. idle.answered (CreditIn j) (less, some) in
+        let answered : 0 < (in_at after j).owed → (in_at before j).slots ≡ 0 = λ some. (idle.answered (CreditIn j) (less, some)).0 in
         by_owed (in_at after j).owed refl within answered
       where
         by_owed : (n : ℕ) → (in_at after j).owed ≡ n → n ≤ (in_at before j).slots → (0 < n → (in_at before j).slots ≡ 0) → n ≡ 0
@@ -46,13 +46,13 @@ module _ (credits : ℕ) (before after : Node) (ins : (j : ℕ) → j < length a
       none_left k less =
           let other : Out credits (out_at before k) (out_at after k) = outs k less in
           clear_has_none_left credits (out_at before k) (out_at after k) other.before other.after other.meets other.clear
-          (λ some. idle.answered (DataOut k) (less, some))
+          (λ some. (idle.answered (DataOut k) (less, some)).0)
 
       wants_none : (k : ℕ) → k < length after.outs → WantsCredit credits (out_at after k) → ⊥
       wants_none k less =
           let other : Out credits (out_at before k) (out_at after k) = outs k less in
           clear_wants_none credits (out_at before k) (out_at after k) other.before other.after other.meets other.clear (none_left k less)
-          (λ wants. idle.answered (CreditOut k) (less, wants))
+          (λ wants. (idle.answered (CreditOut k) (less, wants)).0)
 
       -- an idle node whose links out are clear waits for frames alone: on some link in whose Finish it has not taken
       pub waits_for_frames : NoneWaits after × (j : ℕ) × (j < length after.ins) × (has_finish (in_at after j).given ≡ false)
@@ -73,7 +73,7 @@ module _ (credits : ℕ) (before after : Node) (ins : (j : ℕ) → j < length a
           (λ (has : has_finish (in_at after j).given ≡ true).
           finished_is_clear credits other.before other.after (in_at before j) (in_at after j) other.meets has (owes_none j less))
           (λ (has : has_finish (in_at after j).given ≡ false).
-          record { items = idle.answered (DataIn j) (less, has, free); owed = owes_none j less; empty = idle.empty free j less has })
+          record { items = (idle.answered (DataIn j) (less, has, free)).0; owed = owes_none j less; empty = idle.empty free j less has })
           (cases_Bool (has_finish (in_at after j).given))
 
       -- a node that has taken Finish from each link in is not idle

@@ -1,12 +1,14 @@
 -- Rounds, turn by turn.
-use Rattle.std.proofs.Common.{ℕ, ◌+◌, ◌-◌, ◌<◌, ◌≤◌, ◌≡◌, length, refl, sym, ap, subst, ◌∙◌, inr, ⊎_elim, arith}
+use Rattle.std.proofs.Common.{ℕ, ◌+◌, ◌-◌, ◌<◌, ◌≤◌, ◌≡◌, length, refl, sym, ap, subst, ◌∙◌, inl, inr, ⊎_elim, arith}
 use Rattle.std.proofs.lemmas.Bool.{cases_lt, cases_eq}
 use Rattle.round_law.specs.Waits.{Node}
-use Rattle.round_law.specs.Rows.{moved, Rests}
+use Rattle.round_law.specs.Rows.{moved, Moves, Rests, Answers}
 use Rattle.round_law.specs.Pipeline.{Net, Place, node_of, IsIn, IsAlike}
 use Rattle.round_law.specs.Pipeline.Place.{Parser, Grouper, Processor, Merge}
-use Rattle.round_law.specs.Turns.{number_of, node_count, IsTurn, RoundBegins, RoundRests, RoundMoves, RoundGoesOn, RoundEnds}
+use Rattle.round_law.specs.Measure.{NoneFalls}
+use Rattle.round_law.specs.Turns.{number_of, node_count, IsTurn, RoundBegins, RoundRests, RoundMoves, TurnLowersNone, RoundGoesOn, RoundEnds}
 use Rattle.round_law.proofs.Counts.{none_lowers}
+use Rattle.round_law.proofs.Looked.{looks_keep, moved_same}
 use Rattle.round_law.proofs.Pipelines.{still_in, alike_back}
 
 -- ---- nets alike
@@ -47,7 +49,8 @@ pub turn_as : (R S : Node → Node → Type 0) → ((b a : Node) → R b a → S
 turn_as R S follows n before after turn = record {
   alike = turn.alike;
   answered = λ place there it. follows (node_of before place) (node_of after place) (turn.answered place there it);
-  others = turn.others;
+  earlier = turn.earlier;
+  later = turn.later;
 }
 
 -- ---- the round
@@ -75,46 +78,55 @@ round_rests credits n start now after so_far turn = record { alike = alike_in_tu
         subst (λ (node : Node). Rests credits node (node_of after place)) (so_far.untouched place there (omega arith))
         (turn.answered place (is_in place there) (number place ∙ it)))
         (λ (other : number_of start place ≡ n → ⊥).
-        subst (λ (node : Node). Rests credits (node_of start place) node)
-        (sym (turn.others place (is_in place there) (λ e. other (sym (number place) ∙ e))))
-        (so_far.rested place there (omega arith)))
+        let same = number place in
+        looks_keep credits (node_of start place) (node_of now place) (node_of after place) (turn.earlier place (is_in place there) (omega arith)) (so_far.rested place there (omega arith)))
         (cases_eq (number_of start place) n)
 
     untouched : (place : Place) → IsIn start place → n + 1 ≤ number_of start place → node_of after place ≡ node_of start place
     untouched place there past =
-        turn.others place (is_in place there) (λ e. let it : number_of start place ≡ n = sym (number place) ∙ e in omega arith)
-        ∙ so_far.untouched place there (omega arith)
+        let same = number place in
+        turn.later place (is_in place there) (omega arith) ∙ so_far.untouched place there (omega arith)
 
-pub round_goes_on : (credits n : ℕ) (start now after : Net) → RoundGoesOn credits n start now after
-round_goes_on credits n start now after moves turn = record {
-  alike = alike_in_turn start now after moves.alike turn.alike;
-  none_falls = λ place there.
-      let first : moved (node_of start place) ≤ moved (node_of now place) = moves.none_falls place there in
-      let second : moved (node_of now place) ≤ moved (node_of after place) = keeps place (is_in place there) in
-      omega arith;
+pub turn_lowers_none : (credits n : ℕ) (before after : Net) → TurnLowersNone credits n before after
+turn_lowers_none credits n before after turn = record { alike = turn.alike; counts = counts }
+  where
+    counts : (place : Place) → IsIn before place → moved (node_of before place) ≤ moved (node_of after place)
+    counts place there =
+        ⊎_elim
+        (λ (it : number_of before place ≡ n). none_lowers credits (node_of before place) (node_of after place) (turn.answered place there it))
+        (λ (other : number_of before place ≡ n → ⊥).
+        ⊎_elim
+        (λ (less : number_of before place < n).
+        let same : moved (node_of after place) ≡ moved (node_of before place) = moved_same (node_of before place) (node_of after place) (turn.earlier place there less) in
+        omega arith)
+        (λ (past : n ≤ number_of before place).
+        let same : moved (node_of after place) ≡ moved (node_of before place) = ap moved (turn.later place there (omega arith)) in
+        omega arith)
+        (cases_lt (number_of before place) n))
+        (cases_eq (number_of before place) n)
+
+pub round_goes_on : (start now after : Net) → RoundGoesOn start now after
+round_goes_on start now after moves falls = record {
+  none_falls = record {
+    alike = alike_in_turn start now after moves.none_falls.alike falls.alike;
+    counts = λ place there.
+        let first : moved (node_of start place) ≤ moved (node_of now place) = moves.none_falls.counts place there in
+        let second : moved (node_of now place) ≤ moved (node_of after place) = falls.counts place (is_in place there) in
+        omega arith;
+  };
   some_rises =
       let place : Place = moves.some_rises.0 in
       let first : moved (node_of start place) < moved (node_of now place) = moves.some_rises.2 in
-      let second : moved (node_of now place) ≤ moved (node_of after place) = keeps place (is_in place moves.some_rises.1) in
+      let second : moved (node_of now place) ≤ moved (node_of after place) = falls.counts place (is_in place moves.some_rises.1) in
       (place, moves.some_rises.1, omega arith);
 }
   where
     is_in : (place : Place) → IsIn start place → IsIn now place
-    is_in = still_in start now moves.alike
-
-    keeps : (place : Place) → IsIn now place → moved (node_of now place) ≤ moved (node_of after place)
-    keeps place there =
-        ⊎_elim
-        (λ (it : number_of now place ≡ n). none_lowers credits (node_of now place) (node_of after place) (turn.answered place there it))
-        (λ (other : number_of now place ≡ n → ⊥).
-        let same : moved (node_of after place) ≡ moved (node_of now place) = ap moved (turn.others place there other) in
-        omega arith)
-        (cases_eq (number_of now place) n)
+    is_in = still_in start now moves.none_falls.alike
 
 pub round_moves : (credits n : ℕ) (start now after : Net) → RoundMoves credits n start now after
 round_moves credits n start now after less so_far turn = record {
-  alike = alike_in_turn start now after so_far.alike turn.alike;
-  none_falls = none_falls;
+  none_falls = record { alike = alike_in_turn start now after so_far.alike turn.alike; counts = counts };
   some_rises = some_rises;
 }
   where
@@ -124,18 +136,18 @@ round_moves credits n start now after less so_far turn = record {
     number : (place : Place) → number_of now place ≡ number_of start place
     number = same_number start now so_far.alike
 
+    falls : NoneFalls now after
+    falls = turn_lowers_none credits n now after (turn_as Moves (Answers credits) (λ b a moves. inl moves) n now after turn)
+
     rises : (place : Place) → IsIn start place → number_of start place ≡ n → moved (node_of start place) < moved (node_of after place)
     rises place there it =
         let same : moved (node_of now place) ≡ moved (node_of start place) = ap moved (so_far.untouched place there (omega arith)) in
         let up : moved (node_of now place) < moved (node_of after place) = (turn.answered place (is_in place there) (number place ∙ it)).rises in
         omega arith
 
-    none_falls : (place : Place) → IsIn start place → moved (node_of start place) ≤ moved (node_of after place)
-    none_falls place there =
-        ⊎_elim
-        (λ (it : number_of start place ≡ n). let up : moved (node_of start place) < moved (node_of after place) = rises place there it in omega arith)
-        (λ (other : number_of start place ≡ n → ⊥).
-        let same : moved (node_of after place) ≡ moved (node_of now place) = ap moved (turn.others place (is_in place there) (λ e. other (sym (number place) ∙ e))) in
+    counts : (place : Place) → IsIn start place → moved (node_of start place) ≤ moved (node_of after place)
+    counts place there =
+        let second : moved (node_of now place) ≤ moved (node_of after place) = falls.counts place (is_in place there) in
         ⊎_elim
         (λ (had : number_of start place < n).
         let kept : moved (node_of start place) ≤ moved (node_of now place) = none_lowers credits (node_of start place) (node_of now place) (inr (so_far.rested place there had)) in
@@ -143,8 +155,7 @@ round_moves credits n start now after less so_far turn = record {
         (λ (later : n ≤ number_of start place).
         let kept : moved (node_of now place) ≡ moved (node_of start place) = ap moved (so_far.untouched place there later) in
         omega arith)
-        (cases_lt (number_of start place) n))
-        (cases_eq (number_of start place) n)
+        (cases_lt (number_of start place) n)
 
     some_rises : (place : Place) × IsIn start place × (moved (node_of start place) < moved (node_of after place))
     some_rises =

@@ -7,8 +7,8 @@ use Rattle.node_frames.specs.Link.{Opens, SpellsAll}
 
 -- The end of a link that sends: the frames that were offered and how many wait to be (the length of the queue behind
 -- them), the bytes of these that went into the data pipe and those left, the number held, the credits taken back (how
--- many bytes came out of the credit pipe), and of how many bytes it is sure: that the data pipe takes them, that the
--- credit pipe hands them over.
+-- many bytes came out of the credit pipe), of how many bytes it is sure: that the data pipe takes them, that the credit
+-- pipe hands them over, and how many times in a row each of the two pipes has answered 0.
 pub record Sender : Type 0 where
   pub offered : List Frame
   pub waiting : ℕ
@@ -18,10 +18,13 @@ pub record Sender : Type 0 where
   pub back : ℕ
   pub room : ℕ
   pub coins : ℕ
+  pub put_silent : ℕ
+  pub back_silent : ℕ
 
 -- The end of a link that receives: the bytes that came out of the data pipe, the frames of these that were taken and
 -- the bytes that wait in the box, the credits paid (how many bytes went into the credit pipe) and those granted and
--- still owed, and of how many bytes it is sure: that the data pipe hands them over, that the credit pipe takes them.
+-- still owed, of how many bytes it is sure: that the data pipe hands them over, that the credit pipe takes them, and how
+-- many times in a row each of the two pipes has answered 0.
 pub record Receiver : Type 0 where
   pub got : List ℕ
   pub given : List Frame
@@ -30,6 +33,8 @@ pub record Receiver : Type 0 where
   pub owed : ℕ
   pub items : ℕ
   pub slots : ℕ
+  pub got_silent : ℕ
+  pub paid_silent : ℕ
 
 -- the bytes that a data ring holds; a credit ring holds as many as there are credits
 unfoldable pub ring_bytes : ℕ
@@ -116,10 +121,10 @@ pub record IsSettled (s : Sender) (r : Receiver) : Type 0 where
 -- ---- the start of a link
 
 abbrev pub new_sender : Sender
-new_sender = record { offered = []; waiting = 0; put = []; left = []; held = 0; back = 0; room = ring_bytes; coins = 0 }
+new_sender = record { offered = []; waiting = 0; put = []; left = []; held = 0; back = 0; room = ring_bytes; coins = 0; put_silent = 0; back_silent = 0 }
 
 abbrev pub new_receiver : (credits : ℕ) → Receiver
-new_receiver credits = record { got = []; given = []; box = []; paid = 0; owed = 0; items = 0; slots = credits }
+new_receiver credits = record { got = []; given = []; box = []; paid = 0; owed = 0; items = 0; slots = credits; got_silent = 0; paid_silent = 0 }
 
 -- a new link is sound and joined
 pub record StartsSound (credits : ℕ) : Type 0 where

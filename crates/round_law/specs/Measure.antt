@@ -25,12 +25,13 @@ piece_bytes = 4096
 unfoldable pub frame_bytes : ℕ
 frame_bytes = 1028
 
--- a parser takes up the records of its captures, and reads at most one piece beyond each
+-- a parser takes up the records of its captures, and reads at most one piece beyond each; an invariant of the node,
+-- which is in none of its rows
 pub record ReadsFew (captures : ℕ) (node : Node) : Type 0 where
   pub read : node.read ≤ captures * (capture_bytes + piece_bytes)
   pub records : node.records ≤ captures * capture_records
 
--- any other node has no capture
+-- any other node has no capture; an invariant too
 pub record ReadsNone (node : Node) : Type 0 where
   pub read : node.read ≡ 0
   pub records : node.records ≡ 0
@@ -124,10 +125,14 @@ pub record HasBound (captures : ℕ) (net : Net) : Type 0 where
 abbrev pub RunHasBound : (captures credits : ℕ) → Net → Type 0
 RunHasBound captures credits net = IsInLimits captures net → IsSound credits net → EachLink ComesThrough net → IsLimited captures net → HasBound captures net
 
--- no node's count falls, and some node's rises
-pub record SomeMoves (before after : Net) : Type 0 where
+-- no node's count falls
+pub record NoneFalls (before after : Net) : Type 0 where
   pub alike : IsAlike before after
-  pub none_falls : (place : Place) → IsIn before place → moved (node_of before place) ≤ moved (node_of after place)
+  pub counts : (place : Place) → IsIn before place → moved (node_of before place) ≤ moved (node_of after place)
+
+-- and some node's rises
+pub record SomeMoves (before after : Net) : Type 0 where
+  pub none_falls : NoneFalls before after
   pub some_rises : (place : Place) × IsIn before place × (moved (node_of before place) < moved (node_of after place))
 
 -- then what is ahead falls, where the bound holds afterwards

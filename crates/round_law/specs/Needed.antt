@@ -1,9 +1,9 @@
 -- No clause of `IsIdle` can be dropped: without it two nodes that are joined by one link stand still for ever.
 use Rattle.std.specs.Prelude.{ℕ, ◌≡◌, ◌<◌, Bool, true, false, [], ◌∷◌, length}
 use Rattle.round_law.specs.Links.{Sender, Receiver, has_finish, OpensNoFrame}
-use Rattle.round_law.specs.Waits.{Node, PipeEnd, sure_at, in_at, NoneWaits, Waits, IsDone}
+use Rattle.round_law.specs.Waits.{Node, PipeEnd, IsIdle, AnsweredIn, in_at, NoneWaits, Waits, IsDone}
 use Rattle.round_law.specs.Waits.PipeEnd.{DataOut, CreditOut, DataIn, CreditIn}
-use Rattle.round_law.specs.Rows.{IsOrderly, HasSoundEnds, OffersFew, AreCounted}
+use Rattle.round_law.specs.Rows.{IsOrderly, HasSoundEnds, OffersFew, AreCounted, Rests}
 use Rattle.round_law.specs.Network.{IsNetwork, IsStillRound}
 
 -- the clauses: it waits on some pipe end, it was sure of no byte of such an end of each of the four kinds, and the box
@@ -25,7 +25,7 @@ clause_of (CreditIn j) = NoSlots
 -- `IsIdle` of a node that is after the turn as it was before, but for one clause
 pub record IsIdleBut (clause : Clause) (credits : ℕ) (node : Node) : Type 0 where
   pub waits : ¬ (clause ≡ SomeEnd) → (end : PipeEnd) × Waits credits node end
-  pub answered : (end : PipeEnd) → ¬ (clause ≡ clause_of end) → Waits credits node end → sure_at node end ≡ 0
+  pub answered : (end : PipeEnd) → ¬ (clause ≡ clause_of end) → Waits credits node end → AnsweredIn node node end
   pub empty : ¬ (clause ≡ NoFrame) → NoneWaits node → (j : ℕ) → j < length node.ins → has_finish (in_at node j).given ≡ false → OpensNoFrame (in_at node j).box
 
 -- a node with one link out, and one with one link in
@@ -57,6 +57,10 @@ pub record IsStuckWithout (clause : Clause) (s : Sender) (r : Receiver) : Type 0
 abbrev pub EachClauseIsNeeded : Clause → Type 0
 EachClauseIsNeeded clause = (s : Sender) × (r : Receiver) × IsStuckWithout clause s r
 
--- and all clauses together can be met: two nodes that are done stand still
+-- all premises of a still round can be met together: by two nodes that are done
 abbrev pub SomeRoundIsStill : Type 0
 SomeRoundIsStill = (s : Sender) × (r : Receiver) × IsStillRound (λ (n : Bool). Unit {0}) rank_of 1 (pair_of s r) (pair_of s r)
+
+-- and a node that waits for its first frame is idle
+abbrev pub SomeNodeIsIdle : Type 0
+SomeNodeIsIdle = (node : Node) × Rests 1 node node × IsIdle 1 node node

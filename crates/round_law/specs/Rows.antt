@@ -49,16 +49,7 @@ pub record AreCounted (node : Node) : Type 0 where
 
 -- ---- a turn in which nothing moved
 
-pub record SenderStays (s t : Sender) : Type 0 where
-  pub put : t.put ≡ s.put
-  pub back : t.back ≡ s.back
-
-pub record ReceiverStays (r t : Receiver) : Type 0 where
-  pub got : t.got ≡ r.got
-  pub given : t.given ≡ r.given
-  pub paid : t.paid ≡ r.paid
-
--- the bytes of each pipe, the frames taken, the bytes read and written are as before; frames may have been offered
+-- what was read, taken up, taken and written is as before; frames may have been offered
 pub record StandsStill (before after : Node) : Type 0 where
   pub read : after.read ≡ before.read
   pub records : after.records ≡ before.records
@@ -66,13 +57,24 @@ pub record StandsStill (before after : Node) : Type 0 where
   pub wrote_all : after.wrote_all ≡ before.wrote_all
   pub in_count : length after.ins ≡ length before.ins
   pub out_count : length after.outs ≡ length before.outs
+  pub given : (j : ℕ) → j < length before.ins → (in_at after j).given ≡ (in_at before j).given
+
+-- over pipes that tell, the bytes of each are as before
+pub record SenderStays (s t : Sender) : Type 0 where
+  pub put : t.put ≡ s.put
+  pub back : t.back ≡ s.back
+
+pub record ReceiverStays (r t : Receiver) : Type 0 where
+  pub got : t.got ≡ r.got
+  pub paid : t.paid ≡ r.paid
+
+pub record PipesStay (before after : Node) : Type 0 where
   pub ins : (j : ℕ) → j < length before.ins → ReceiverStays (in_at before j) (in_at after j)
   pub outs : (k : ℕ) → k < length before.outs → SenderStays (out_at before k) (out_at after k)
 
--- ---- the three answers
+-- ---- the three answers, over all pipes
 
-pub record MovedRow (before after : Node) : Type 0 where
-  pub rises : moved before < moved after
+pub record MovedRow (after : Node) : Type 0 where
   pub orderly : IsOrderly after
   pub few : OffersFew after
 
@@ -88,18 +90,62 @@ pub record DoneRow (before after : Node) : Type 0 where
   pub orderly : IsOrderly after
   pub few : OffersFew after
 
--- idle or done
-abbrev pub Rests : (credits : ℕ) (before after : Node) → Type 0
-Rests credits before after = IdleRow credits before after ⊎ DoneRow before after
+-- ---- the same where all pipes of the node tell
+
+-- moved: something came or went
+pub record Moves (before after : Node) : Type 0 where
+  pub row : MovedRow after
+  pub rises : moved before < moved after
+
+-- idle or done: no byte came or went
+pub record Rests (credits : ℕ) (before after : Node) : Type 0 where
+  pub row : IdleRow credits before after ⊎ DoneRow before after
+  pub pipes : PipesStay before after
 
 -- moved, idle or done
 abbrev pub Answers : (credits : ℕ) (before after : Node) → Type 0
-Answers credits before after = MovedRow before after ⊎ Rests credits before after
+Answers credits before after = Moves before after ⊎ Rests credits before after
 
 -- where a node stands still, the count of what it has moved does too
 abbrev pub StillCounts : (before after : Node) → Type 0
-StillCounts before after = StandsStill before after → moved after ≡ moved before
+StillCounts before after = StandsStill before after → PipesStay before after → moved after ≡ moved before
 
 -- and no answer lowers it
 abbrev pub NoneLowers : (credits : ℕ) (before after : Node) → Type 0
 NoneLowers credits before after = Answers credits before after → moved before ≤ moved after
+
+-- ---- a look at its links
+
+-- all but of how many bytes an end is sure is as before
+pub record SenderIsLookedAt (s t : Sender) : Type 0 where
+  pub offered : t.offered ≡ s.offered
+  pub waiting : t.waiting ≡ s.waiting
+  pub put : t.put ≡ s.put
+  pub left : t.left ≡ s.left
+  pub held : t.held ≡ s.held
+  pub back : t.back ≡ s.back
+  pub put_silent : t.put_silent ≡ s.put_silent
+  pub back_silent : t.back_silent ≡ s.back_silent
+
+pub record ReceiverIsLookedAt (r t : Receiver) : Type 0 where
+  pub got : t.got ≡ r.got
+  pub given : t.given ≡ r.given
+  pub box : t.box ≡ r.box
+  pub paid : t.paid ≡ r.paid
+  pub owed : t.owed ≡ r.owed
+  pub got_silent : t.got_silent ≡ r.got_silent
+  pub paid_silent : t.paid_silent ≡ r.paid_silent
+
+pub record IsLookedAt (before after : Node) : Type 0 where
+  pub read : after.read ≡ before.read
+  pub records : after.records ≡ before.records
+  pub wrote : after.wrote ≡ before.wrote
+  pub wrote_all : after.wrote_all ≡ before.wrote_all
+  pub in_count : length after.ins ≡ length before.ins
+  pub out_count : length after.outs ≡ length before.outs
+  pub ins : (j : ℕ) → j < length before.ins → ReceiverIsLookedAt (in_at before j) (in_at after j)
+  pub outs : (k : ℕ) → k < length before.outs → SenderIsLookedAt (out_at before k) (out_at after k)
+
+-- a look after a turn leaves what the turn says as it was
+abbrev pub LooksKeep : (credits : ℕ) (before now after : Node) → Type 0
+LooksKeep credits before now after = IsLookedAt now after → Rests credits before now → Rests credits before after

@@ -1,5 +1,6 @@
 -- What a node waits on, and when it is idle or done.
 use Rattle.std.specs.Prelude.{ℕ, ◌≡◌, ◌<◌, ◌⊎◌, Bool, true, false, IsTrue, List, length, slice_index_or, All}
+use Rattle.ds_base.specs.Faults.{Rose}
 use Rattle.round_law.specs.Links.{Sender, Receiver, new_sender, new_receiver, has_finish, OpensNoFrame, HasSentAll, HasTakenAll}
 
 -- A node: the bytes that it has read from its sources, the records that it has taken up, the bytes that it has written
@@ -33,6 +34,18 @@ sure_at node (CreditOut k) = (out_at node k).coins
 sure_at node (DataIn j) = (in_at node j).items
 sure_at node (CreditIn j) = (in_at node j).slots
 
+-- how many times in a row the pipe of an end has answered 0
+abbrev pub silent_at : Node → PipeEnd → ℕ
+silent_at node (DataOut k) = (out_at node k).put_silent
+silent_at node (CreditOut k) = (out_at node k).back_silent
+silent_at node (DataIn j) = (in_at node j).got_silent
+silent_at node (CreditIn j) = (in_at node j).paid_silent
+
+-- it answered 0 in a turn: it was sure of no byte when the turn began, and the count of such answers rose or stands at
+-- its end
+abbrev pub AnsweredIn : (before after : Node) → PipeEnd → Type 0
+AnsweredIn before after end = (sure_at before end ≡ 0) × Rose (silent_at before end) (silent_at after end)
+
 -- no frame waits on its links out
 abbrev pub NoneWaits : Node → Type 0
 NoneWaits node = All (λ (s : Sender). s.waiting ≡ 0) node.outs
@@ -48,11 +61,11 @@ Waits credits node (CreditOut k) = (k < length node.outs) × WantsCredit credits
 Waits credits node (DataIn j) = (j < length node.ins) × (has_finish (in_at node j).given ≡ false) × NoneWaits node
 Waits credits node (CreditIn j) = (j < length node.ins) × (0 < (in_at node j).owed)
 
--- after a turn: it waits on some pipe end, it was sure of no byte of such an end when the turn began, and where no
--- frame waits on its links out, what came on a link in whose Finish was not taken opens no whole frame
+-- after a turn: it waits on some pipe end, each such end answered 0 in this turn, and where no frame waits on its links
+-- out, what came on a link in whose Finish was not taken opens no whole frame
 pub record IsIdle (credits : ℕ) (before after : Node) : Type 0 where
   pub waits : (end : PipeEnd) × Waits credits after end
-  pub answered : (end : PipeEnd) → Waits credits after end → sure_at before end ≡ 0
+  pub answered : (end : PipeEnd) → Waits credits after end → AnsweredIn before after end
   pub empty : NoneWaits after → (j : ℕ) → j < length after.ins → has_finish (in_at after j).given ≡ false → OpensNoFrame (in_at after j).box
 
 -- it has taken and sent all, and has written all

@@ -3,13 +3,13 @@
 ghost use Rattle.std.specs.Prelude.{ℕ, Bool, IsTrue};
 ghost use Rattle.round_law.specs.Links.{DoneIsSettled, OwesWithin, Receiver, Sender, StartsSound};
 ghost use Rattle.round_law.specs.Measure.{FramesFit, MovesLower, RunHasBound, StartIsLimited};
-ghost use Rattle.round_law.specs.Needed.{Clause, EachClauseIsNeeded, SomeRoundIsStill};
+ghost use Rattle.round_law.specs.Needed.{Clause, EachClauseIsNeeded, SomeNodeIsIdle, SomeRoundIsStill};
 ghost use Rattle.round_law.specs.Network.{StillIsDone};
 ghost use Rattle.round_law.specs.Pipeline.{JoinedComesThrough, Net, StartIsSound};
 ghost use Rattle.round_law.specs.Rounds.{AllDoneIsSettled, QuietIsDone};
 ghost use Rattle.round_law.specs.Offers.{KindsAreFew};
-ghost use Rattle.round_law.specs.Rows.{NoneLowers, StillCounts};
-ghost use Rattle.round_law.specs.Turns.{RoundBegins, RoundEnds, RoundGoesOn, RoundMoves, RoundRests};
+ghost use Rattle.round_law.specs.Rows.{LooksKeep, NoneLowers, StillCounts};
+ghost use Rattle.round_law.specs.Turns.{RoundBegins, RoundEnds, RoundGoesOn, RoundMoves, RoundRests, TurnLowersNone};
 ghost use Rattle.round_law.specs.Waits.{DoneWaitsOnNothing, Node};
 
 /// A law: a new link is sound, and joined where there is a credit.
@@ -68,6 +68,11 @@ pub fn still_counts()
     ensures never_falls { (credits : ℕ) (before after : Node) → NoneLowers credits before after }
 {}
 
+/// A law: a look at its links leaves what an idle or done turn of a node says as it was.
+pub fn looks_keep()
+    ensures { (credits : ℕ) (before now after : Node) → LooksKeep credits before now after }
+{}
+
 /// A law: where a parser offers at most one Item and one Mark for each record, a grouper one head of a
 /// group and one member for each Item and one GroupMark for each Mark or CaptureEnd, and a processor one
 /// answer for each head and one GroupMark for each GroupMark or Finish, a node offers few frames.
@@ -98,9 +103,11 @@ pub fn each_clause_is_needed()
     ensures { (clause : Clause) → EachClauseIsNeeded clause }
 {}
 
-/// A law: the premises of `still_is_done` can be met together, by two nodes that are done.
+/// A law: the premises of `still_is_done` can be met together, by two nodes that are done; and a node
+/// that waits for its first frame is idle.
 pub fn some_round_is_still()
-    ensures { SomeRoundIsStill }
+    ensures round { SomeRoundIsStill }
+    ensures idle { SomeNodeIsIdle }
 {}
 
 /// Laws: a round goes through the nodes by their numbers. As long as each was idle or done, the others
@@ -109,6 +116,7 @@ pub fn round_goes_on()
     ensures begins { (credits : ℕ) (net : Net) → RoundBegins credits net }
     ensures rests { (credits n : ℕ) (start now after : Net) → RoundRests credits n start now after }
     ensures moves { (credits n : ℕ) (start now after : Net) → RoundMoves credits n start now after }
-    ensures goes_on { (credits n : ℕ) (start now after : Net) → RoundGoesOn credits n start now after }
+    ensures lowers_none { (credits n : ℕ) (before after : Net) → TurnLowersNone credits n before after }
+    ensures goes_on { (start now after : Net) → RoundGoesOn start now after }
     ensures ends { (credits : ℕ) (start now : Net) → RoundEnds credits start now }
 {}

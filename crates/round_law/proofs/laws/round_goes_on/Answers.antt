@@ -1,4 +1,4 @@
-use Rattle.round_law.proofs.Turns.{round_begins, round_rests, round_moves, round_goes_on, round_ends}
+use Rattle.round_law.proofs.Turns.{round_begins, round_rests, round_moves, turn_lowers_none, round_goes_on, round_ends}
 use Rattle.round_law.proofs.laws.round_goes_on.Goals as goal
 
 pub returns-clause-begins : goal.returns-clause-begins
@@ -9,6 +9,9 @@ returns-clause-rests c = round_rests
 
 pub returns-clause-moves : goal.returns-clause-moves
 returns-clause-moves c = round_moves
+
+pub returns-clause-lowers_none : goal.returns-clause-lowers_none
+returns-clause-lowers_none c = turn_lowers_none
 
 pub returns-clause-goes_on : goal.returns-clause-goes_on
 returns-clause-goes_on c = round_goes_on

@@ -1,5 +1,9 @@
 use Rattle.round_law.proofs.Finished.{some_round_is_still}
+use Rattle.round_law.proofs.Needed.{some_node_is_idle}
 use Rattle.round_law.proofs.laws.some_round_is_still.Goals as goal
 
-pub returns : goal.returns
-returns c = some_round_is_still
+pub returns-clause-round : goal.returns-clause-round
+returns-clause-round c = some_round_is_still
+
+pub returns-clause-idle : goal.returns-clause-idle
+returns-clause-idle c = some_node_is_idle
