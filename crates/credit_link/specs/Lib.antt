@@ -1,0 +1,9 @@
+pub mod Frames
+pub mod Moves
+pub mod Sending
+pub mod Ends
+pub mod Pumping
+pub mod Ahead
+pub mod Receiving
+pub mod Pulling
+pub mod Joined
