@@ -105,6 +105,13 @@ impl Sender {
         self.most_held
     }
 
+    /// How many frames may be held at once.
+    pub(crate) fn credits(&self) -> u32
+        ensures { result ≡ self.now.credits }
+    {
+        self.credits
+    }
+
     /// How many frames are held.
     pub(crate) fn held(&self) -> u32
         ensures held { result ≡ self.now.held }
@@ -177,6 +184,7 @@ impl Sender {
         ensures offered { self.new.offered ≡ self.old.offered ++ frame.now ∷ [] }
         ensures held { self.new.held ≡ self.old.held + 1 }
         ensures most { self.new.most_held ≡ max self.old.most_held self.new.held }
+        ensures some { 0 < length self.new.left }
         ensures left { IsCounted self.new.offered → self.new.left ≡ framed (wire_behind self.old.offered frame.now) }
         ensures finished { self.new.finished ≡ is_finish frame.now }
         ensures rest { (self.new.credits ≡ self.old.credits) × (self.new.repaid ≡ self.old.repaid) × (self.new.fault ≡ self.old.fault) }

@@ -83,6 +83,7 @@ impl<T: NamedTx, R: NamedRx> LinkTx<T, R> {
         ensures held { self.new.held ≡ self.old.held + 1 }
         ensures most { self.new.most_held ≡ max self.old.most_held self.new.held }
         ensures finished { self.new.finished ≡ is_finish frame.now }
+        ensures left { 0 < length self.new.left }
         ensures rest { self.new ≡ record self.old { offered = self.new.offered; left = self.new.left; held = self.new.held; most_held = self.new.most_held; finished = self.new.finished } }
         ensures stands { TxStands self.new }
     {
@@ -154,6 +155,15 @@ impl<T: NamedTx, R: NamedRx> LinkTx<T, R> {
                 Err(LinkBad::Failed)
             }
         }
+    }
+
+    /// How many frames may be held at once.
+    pub fn credits(&self) -> u32
+        ensures credits { result ≡ self.now.credits }
+        ensures stands { TxStands self.now }
+    {
+        let _ = self.sender.held();
+        self.sender.credits()
     }
 
     /// How many frames were sent for which no credit came back.
