@@ -9,7 +9,7 @@ use Rattle.node_frames.specs.Table.{payload_of}
 use Rattle.node_frames.specs.Link.{SpellsAll, SpellsFrom, framed, wire_of, carried}
 use Rattle.node_frames.proofs.Bytes.{length-bytes_of}
 use Rattle.node_frames.proofs.Links.{bytes_come_after, two_readings_are_one}
-use Rattle.round_law.specs.Links.{Sender, Receiver, ring_bytes, is_finish, has_finish, FinishIsLast, OpensNoFrame, IsSender, IsReceiver, IsGranted, HasSentAll, AreJoined, StartsSound, DoneIsSettled, OwesWithin}
+use Rattle.round_law.specs.Links.{Sender, Receiver, ring_bytes, is_finish, has_finish, FinishIsLast, OpensNoFrame, IsSender, IsReceiver, IsGranted, HasSentAll, AreJoined, StartsSound, DoneIsSettled, OwesWithin, SentSome}
 use Rattle.round_law.specs.Waits.{WantsCredit}
 use Rattle.round_law.specs.Rows.{SenderStays, ReceiverStays}
 
@@ -238,3 +238,10 @@ owes_within credits s r sends takes granted joined =
     let coins = joined.coins in
     let slots = joined.slots in
     (omega arith, omega arith)
+
+pub sent_some : (s : Sender) → SentSome s
+sent_some s done = by_frames s.offered done.finish
+  where
+    by_frames : (frames : List Frame) → IsTrue (has_finish frames) → 1 ≤ length frames
+    by_frames [] has = absurd (false≢true has)
+    by_frames (f ∷ fs) has = omega arith

@@ -12,3 +12,4 @@ pub mod Finished
 pub mod Turns
 pub mod Quiet
 pub mod Looked
+pub mod Idling

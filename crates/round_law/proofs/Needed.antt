@@ -11,11 +11,11 @@ use Rattle.node_frames.specs.Table.{payload_of}
 use Rattle.node_frames.specs.Link.{Opens, SpellsAll, framed}
 use Rattle.node_frames.proofs.Bytes.{length-bytes_of}
 use Rattle.round_law.specs.Links.{IsCounted, Sender, Receiver, ring_bytes, has_finish, FinishIsLast, OpensNoFrame, IsSender, IsReceiver, IsGranted, HasSentAll, HasTakenAll, AreJoined}
-use Rattle.round_law.specs.Waits.{Node, IsIdle, in_at, PipeEnd, AnsweredIn, NoneWaits, Waits, IsDone}
+use Rattle.round_law.specs.Waits.{in_at, PipeEnd, AnsweredIn, NoneWaits, Waits, IsDone}
 use Rattle.round_law.specs.Waits.PipeEnd.{DataOut, CreditOut, DataIn, CreditIn}
 use Rattle.round_law.specs.Rows.{AreCounted, IsOrderly, HasSoundEnds, OffersFew, frames_beside}
 use Rattle.round_law.specs.Network.{Leads}
-use Rattle.round_law.specs.Needed.{SomeNodeIsIdle, Clause, clause_of, IsIdleBut, sending, receiving, pair_of, rank_of, IsStuckWithout, EachClauseIsNeeded}
+use Rattle.round_law.specs.Needed.{Clause, clause_of, IsIdleBut, sending, receiving, pair_of, rank_of, IsStuckWithout, EachClauseIsNeeded}
 use Rattle.round_law.specs.Needed.Clause.{SomeEnd, NoRoom, NoCoins, NoItems, NoSlots, NoFrame}
 use Rattle.round_law.proofs.Ends.{no_frame_opens_nothing}
 
@@ -243,7 +243,7 @@ has_taken clause paid owed slots granted none = record {
 }
 
 -- nothing was taken
-abbrev took_none : (got box : List ℕ) (items : ℕ) → Receiver
+abbrev pub took_none : (got box : List ℕ) (items : ℕ) → Receiver
 took_none got box items = record { got = got; given = []; box = box; paid = 0; owed = 0; items = items; slots = 1; got_silent = 2 ^ 64 - 1; paid_silent = 2 ^ 64 - 1 }
 
 has_taken_none : (clause : Clause) (bytes : List ℕ) (items : ℕ) → (¬ (clause ≡ NoItems) → items ≡ 0) → (¬ (clause ≡ NoFrame) → OpensNoFrame bytes) → Takes clause (took_none bytes bytes items)
@@ -379,45 +379,3 @@ each_clause_is_needed NoCoins = leaves_a_credit
 each_clause_is_needed NoItems = leaves_bytes
 each_clause_is_needed NoSlots = owes_a_credit
 each_clause_is_needed NoFrame = leaves_a_frame
-
--- ---- an idle node
-
-abbrev idle_node : Node
-idle_node = receiving (took_none [] [] 0)
-
-idle_waits : (end : PipeEnd) → Waits 1 idle_node end → AnsweredIn idle_node idle_node end
-idle_waits (DataOut k) (less, some) = absurd (omega arith)
-idle_waits (CreditOut k) (less, wants) = absurd (omega arith)
-idle_waits (DataIn zero) (less, open_yet, none) = (refl, inr (refl, refl))
-idle_waits (DataIn (suc j)) (less, open_yet, none) = absurd (omega arith)
-idle_waits (CreditIn zero) (less, some) = absurd (omega arith)
-idle_waits (CreditIn (suc j)) (less, some) = absurd (omega arith)
-
-idle_empty : NoneWaits idle_node → (j : ℕ) → j < 1 → has_finish (in_at idle_node j).given ≡ false → OpensNoFrame (in_at idle_node j).box
-idle_empty none zero less open_yet = no_frame_opens_nothing
-idle_empty none (suc j) less open_yet = absurd (omega arith)
-
-is_idle : IsIdle 1 idle_node idle_node
-is_idle = record { waits = (DataIn 0, (omega arith, refl, all_none (λ (s : Sender). s.waiting ≡ 0))); answered = idle_waits; empty = idle_empty }
-
-idle_orderly : IsOrderly idle_node
-idle_orderly = record {
-  granted = all_one (λ (r : Receiver). IsCounted r.given → IsGranted r) (took_none [] [] 0) (λ few. refl);
-  taken = all_one (λ (r : Receiver). FinishIsLast r.given) (took_none [] [] 0) tt;
-  offered = all_none (λ (s : Sender). FinishIsLast s.offered);
-}
-
-pub some_node_is_idle : SomeNodeIsIdle
-some_node_is_idle = (
-  idle_node,
-  record {
-    row = inl (record {
-      still = record { read = refl; records = refl; wrote = refl; wrote_all = refl; in_count = refl; out_count = refl; given = λ j less. refl };
-      idle = is_idle;
-      orderly = idle_orderly;
-      few = λ k d less. absurd (omega arith);
-    });
-    pipes = record { ins = λ j less. record { got = refl; paid = refl }; outs = λ k less. record { put = refl; back = refl } };
-  },
-  is_idle,
-)

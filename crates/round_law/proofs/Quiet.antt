@@ -6,7 +6,7 @@ use Rattle.round_law.specs.Rows.{StandsStill, PipesStay, SenderStays, ReceiverSt
 use Rattle.round_law.specs.Pipeline.{Net, Place, parser_at, grouper_at, processor_at, node_of, IsIn, IsAlike, IsShaped, EachNode, EachLink, IsSound}
 use Rattle.round_law.specs.Pipeline.Place.{Parser, Grouper, Processor, Merge}
 use Rattle.round_law.specs.Measure.{IsInLimits, IsLimited, ReadsFew, ReadsNone}
-use Rattle.round_law.specs.Rounds.{IsQuietRound, QuietIsDone, AllDoneIsSettled}
+use Rattle.round_law.specs.Rounds.{IsQuietRound, QuietIsDone, QuietIsSettled, AllDoneIsSettled}
 use Rattle.round_law.proofs.Ends.{done_is_settled}
 use Rattle.round_law.proofs.Rounds.{still_is_done}
 use Rattle.round_law.proofs.Pipelines.{rank_of, is_network, still_in, alike_back, joined_comes_through}
@@ -185,3 +185,12 @@ module _ (captures credits : ℕ) (net : Net) (limits : IsInLimits captures net)
 
 pub all_done_is_settled : (captures credits : ℕ) (net : Net) → AllDoneIsSettled captures credits net
 all_done_is_settled captures credits net limits sound through limited done = all_settled captures credits net limits sound through limited done
+
+pub quiet_is_settled : (captures credits : ℕ) (before after : Net) → QuietIsSettled captures credits before after
+quiet_is_settled captures credits before after round = (
+  all_settled captures credits before round.limits round.sound (came captures credits before after round) round.limited
+      (λ place there. (all_done captures credits before after round place there).0),
+  all_settled captures credits after (limits captures credits before after round) (sound captures credits before after round) (comes captures credits before after round)
+      (limited captures credits before after round)
+      (each_after IsDone before after round.alike (λ place there. (all_done captures credits before after round place there).1)),
+)

@@ -140,6 +140,10 @@ DoneIsSettled credits s r =
     IsSender credits s → FinishIsLast s.offered → IsReceiver r → IsGranted r → ComesThrough s r → HasSentAll s → HasTakenAll r
     → IsSettled s r
 
+-- a sender that has sent all has sent a frame
+abbrev pub SentSome : Sender → Type 0
+SentSome s = HasSentAll s → 1 ≤ length s.offered
+
 -- a receiver of joined ends never owes more credits than its ring has room for
 abbrev pub OwesWithin : (credits : ℕ) (s : Sender) (r : Receiver) → Type 0
 OwesWithin credits s r = IsSender credits s → IsReceiver r → IsGranted r → AreJoined credits s r → (r.owed ≤ r.slots) × (r.owed ≤ credits)

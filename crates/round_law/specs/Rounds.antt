@@ -21,6 +21,10 @@ abbrev pub QuietIsDone : (captures credits : ℕ) (before after : Net) → Type 
 QuietIsDone captures credits before after = IsQuietRound captures credits before after
     → (place : Place) → IsIn before place → IsDone (node_of before place) × IsDone (node_of after place)
 
+-- and each link is settled, and was
+abbrev pub QuietIsSettled : (captures credits : ℕ) (before after : Net) → Type 0
+QuietIsSettled captures credits before after = IsQuietRound captures credits before after → EachLink IsSettled before × EachLink IsSettled after
+
 -- where all nodes are done, each link is settled
 abbrev pub AllDoneIsSettled : (captures credits : ℕ) → Net → Type 0
 AllDoneIsSettled captures credits net = IsInLimits captures net → IsSound credits net → EachLink ComesThrough net → IsLimited captures net

@@ -1,12 +1,12 @@
 //! Laws about links and networks. Each is a call that does nothing.
 
 ghost use Rattle.std.specs.Prelude.{ℕ, Bool, IsTrue};
-ghost use Rattle.round_law.specs.Links.{DoneIsSettled, OwesWithin, Receiver, Sender, StartsSound};
+ghost use Rattle.round_law.specs.Links.{DoneIsSettled, OwesWithin, Receiver, Sender, SentSome, StartsSound};
 ghost use Rattle.round_law.specs.Measure.{FramesFit, MovesLower, RunHasBound, StartIsLimited};
 ghost use Rattle.round_law.specs.Needed.{Clause, EachClauseIsNeeded, SomeNodeIsIdle, SomeRoundIsStill};
 ghost use Rattle.round_law.specs.Network.{StillIsDone};
 ghost use Rattle.round_law.specs.Pipeline.{JoinedComesThrough, Net, StartIsSound};
-ghost use Rattle.round_law.specs.Rounds.{AllDoneIsSettled, QuietIsDone};
+ghost use Rattle.round_law.specs.Rounds.{AllDoneIsSettled, QuietIsDone, QuietIsSettled};
 ghost use Rattle.round_law.specs.Offers.{KindsAreFew};
 ghost use Rattle.round_law.specs.Rows.{LooksKeep, NoneLowers, StillCounts};
 ghost use Rattle.round_law.specs.Turns.{RoundBegins, RoundEnds, RoundGoesOn, RoundMoves, RoundRests, TurnLowersNone};
@@ -24,9 +24,10 @@ pub fn new_is_sound()
     ensures limited { (captures credits parsers groupers processors : ℕ) → StartIsLimited captures credits parsers groupers processors }
 {}
 
-/// A law: a link whose sender and receiver are done is settled.
+/// A law: a link whose sender and receiver are done is settled, and it carried a frame.
 pub fn done_is_settled()
-    ensures { (credits : ℕ) (s : Sender) (r : Receiver) → DoneIsSettled credits s r }
+    ensures settled { (credits : ℕ) (s : Sender) (r : Receiver) → DoneIsSettled credits s r }
+    ensures sent { (s : Sender) → SentSome s }
 {}
 
 /// A law: over joined ends a receiver owes no more credits than its credit pipe has room for, and so no
@@ -47,9 +48,11 @@ pub fn still_is_done<N>()
         StillIsDone (λ n. IsTrue (there n)) rank credits before after }
 {}
 
-/// A law: the same of the pipeline, with any numbers of parsers, groupers and processors.
+/// A law: the same of the pipeline, with any numbers of parsers, groupers and processors; and each of its
+/// links is settled, and was.
 pub fn quiet_is_done()
-    ensures { (captures credits : ℕ) (before after : Net) → QuietIsDone captures credits before after }
+    ensures done { (captures credits : ℕ) (before after : Net) → QuietIsDone captures credits before after }
+    ensures settled { (captures credits : ℕ) (before after : Net) → QuietIsSettled captures credits before after }
 {}
 
 /// A law: where all nodes of a pipeline are done, each of its links is settled.

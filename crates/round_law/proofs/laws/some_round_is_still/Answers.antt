@@ -1,5 +1,5 @@
 use Rattle.round_law.proofs.Finished.{some_round_is_still}
-use Rattle.round_law.proofs.Needed.{some_node_is_idle}
+use Rattle.round_law.proofs.Idling.{some_node_is_idle}
 use Rattle.round_law.proofs.laws.some_round_is_still.Goals as goal
 
 pub returns-clause-round : goal.returns-clause-round
