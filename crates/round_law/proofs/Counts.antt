@@ -1,9 +1,11 @@
 -- What nodes have moved: it stays where they stand still, and what is ahead falls where it rises.
-use Rattle.std.proofs.Common.{ℕ, ◌+◌, ◌-◌, ◌<◌, ◌≤◌, ◌≡◌, length, ap, ap₂, subst, ◌∙◌, arith, ⊎_elim}
+use Rattle.std.proofs.Common.{inl, inr, ℕ, ◌+◌, ◌-◌, ◌<◌, ◌≤◌, ◌≡◌, length, ap, ap₂, subst, ◌∙◌, arith, ⊎_elim}
 use Rattle.std.specs.List.{sum_by}
+use Rattle.credit_link.specs.declared.turn.Turn.{Turn}
+use Rattle.credit_link.specs.declared.turn.Turn.TheVariants.{Moved, Idle, Done}
 use Rattle.round_law.specs.Links.{Sender, Receiver, new_sender, new_receiver}
 use Rattle.round_law.specs.Waits.{Node, in_at, out_at}
-use Rattle.round_law.specs.Rows.{StandsStill, sent_by, taken_by, moved, SenderStays, ReceiverStays, StillCounts, NoneLowers, Rests, Moves, IdleRow, DoneRow}
+use Rattle.round_law.specs.Rows.{TurnAnswers, StandsStill, sent_by, taken_by, moved, SenderStays, ReceiverStays, StillCounts, NoneLowers, Rests, Moves, IdleRow, DoneRow}
 use Rattle.round_law.specs.Pipeline.{Net, Place, no_node, node_of, IsIn}
 use Rattle.round_law.specs.Pipeline.Place.{Parser, Grouper, Processor, Merge}
 use Rattle.round_law.specs.Measure.{most_moved, all_most, all_moved, SomeMoves, MovesLower}
@@ -80,3 +82,8 @@ pub moves_lower : (captures : ℕ) (before after : Net) → MovesLower captures 
 moves_lower captures before after moves within =
     subst (λ (most : ℕ). all_most captures after + 1 - all_moved after < most + 1 - all_moved before) (same_most captures before after moves)
     (falls (all_most captures after) (all_moved before) (all_moved after) (all_rises before after moves) within)
+
+pub turn_answers : (credits : ℕ) (before after : Node) (turn : Turn) → TurnAnswers credits before after turn
+turn_answers credits before after Moved says tells = inl (record { row = says; rises = tells })
+turn_answers credits before after Idle says tells = inr (record { row = inl says; pipes = tells })
+turn_answers credits before after Done says tells = inr (record { row = inr says; pipes = tells })

@@ -13,3 +13,4 @@ pub mod Turns
 pub mod Quiet
 pub mod Looked
 pub mod Idling
+pub mod Views

@@ -8,3 +8,4 @@ pub mod Rounds
 pub mod Needed
 pub mod Offers
 pub mod Turns
+pub mod Views

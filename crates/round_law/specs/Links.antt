@@ -1,7 +1,7 @@
 -- The two ends of a link, as plain numbers and lists, and what is true of them after the other end was looked at.
-use Rattle.std.specs.Prelude.{ℕ, ◌≡◌, ◌+◌, ◌<◌, ◌≤◌, ◌^◌, ◌++◌, ◌||◌, Bool, true, false, IsTrue, List, [], ◌∷◌, length}
+use Rattle.std.specs.Prelude.{ℕ, ◌≡◌, ◌+◌, ◌<◌, ◌≤◌, ◌++◌, IsTrue, List, [], length}
 use Rattle.node_frames.specs.declared.frame.Frame.{Frame}
-use Rattle.node_frames.specs.declared.frame.Frame.TheVariants.{Finish}
+pub use Rattle.credit_link.specs.Frames.{IsCounted, is_finish, has_finish, FinishIsLast}
 use Rattle.node_frames.specs.declared.wire.Wire.{Wire}
 use Rattle.node_frames.specs.Link.{Opens, SpellsAll}
 
@@ -40,27 +40,7 @@ pub record Receiver : Type 0 where
 unfoldable pub ring_bytes : ℕ
 ring_bytes = 4096
 
--- ---- Finish
-
-abbrev pub is_finish : Frame → Bool
-is_finish Finish = true
-is_finish _ = false
-
--- whether Finish is among these frames
-abbrev pub has_finish : List Frame → Bool
-has_finish [] = false
-has_finish (frame ∷ frames) = is_finish frame || has_finish frames
-
--- no frame follows a Finish
-abbrev pub FinishIsLast : List Frame → Type 0
-FinishIsLast [] = Unit {0}
-FinishIsLast (frame ∷ frames) = (IsTrue (is_finish frame) → frames ≡ []) × FinishIsLast frames
-
 -- ---- one end
-
--- frames that a u64 counts: what the ends of links promise of their numbers stands where it does
-abbrev pub IsCounted : List Frame → Type 0
-IsCounted frames = length frames < 2 ^ 64
 
 -- bytes that no whole frame opens
 abbrev pub OpensNoFrame : List ℕ → Type 0

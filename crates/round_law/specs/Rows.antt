@@ -1,6 +1,8 @@
 -- What each turn of a node says, by its answer: the node as it was when the turn began, and as it is after it.
 use Rattle.std.specs.Prelude.{ℕ, ◌≡◌, ◌+◌, ◌*◌, ◌<◌, ◌≤◌, ◌⊎◌, length, All}
 use Rattle.std.specs.List.{sum_by}
+use Rattle.credit_link.specs.declared.turn.Turn.{Turn}
+use Rattle.credit_link.specs.declared.turn.Turn.TheVariants.{Moved, Idle, Done}
 use Rattle.round_law.specs.Links.{Sender, Receiver, FinishIsLast, IsCounted, IsGranted, IsSender, IsReceiver}
 use Rattle.round_law.specs.Waits.{Node, in_at, out_at, IsIdle, IsDone}
 
@@ -90,7 +92,19 @@ pub record DoneRow (before after : Node) : Type 0 where
   pub orderly : IsOrderly after
   pub few : OffersFew after
 
+-- what a turn says by its answer
+abbrev pub TurnSays : (credits : ℕ) (before after : Node) → Turn → Type 0
+TurnSays credits before after Moved = MovedRow after
+TurnSays credits before after Idle = IdleRow credits before after
+TurnSays credits before after Done = DoneRow before after
+
 -- ---- the same where all pipes of the node tell
+
+-- and what it says of the bytes
+abbrev pub TurnTells : (before after : Node) → Turn → Type 0
+TurnTells before after Moved = moved before < moved after
+TurnTells before after Idle = PipesStay before after
+TurnTells before after Done = PipesStay before after
 
 -- moved: something came or went
 pub record Moves (before after : Node) : Type 0 where
@@ -105,6 +119,10 @@ pub record Rests (credits : ℕ) (before after : Node) : Type 0 where
 -- moved, idle or done
 abbrev pub Answers : (credits : ℕ) (before after : Node) → Type 0
 Answers credits before after = Moves before after ⊎ Rests credits before after
+
+-- which a turn is by both
+abbrev pub TurnAnswers : (credits : ℕ) (before after : Node) → Turn → Type 0
+TurnAnswers credits before after turn = TurnSays credits before after turn → TurnTells before after turn → Answers credits before after
 
 -- where a node stands still, the count of what it has moved does too
 abbrev pub StillCounts : (before after : Node) → Type 0

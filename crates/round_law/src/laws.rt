@@ -1,6 +1,8 @@
 //! Laws about links and networks. Each is a call that does nothing.
 
-ghost use Rattle.std.specs.Prelude.{ℕ, Bool, IsTrue};
+ghost use Rattle.std.specs.Prelude.{ℕ, Bool, IsTrue, List};
+ghost use Rattle.credit_link.specs.Ends.{RxSeen, TxSeen};
+ghost use Rattle.credit_link.specs.declared.turn.Turn.{Turn};
 ghost use Rattle.round_law.specs.Links.{DoneIsSettled, OwesWithin, Receiver, Sender, SentSome, StartsSound};
 ghost use Rattle.round_law.specs.Measure.{FramesFit, MovesLower, RunHasBound, StartIsLimited};
 ghost use Rattle.round_law.specs.Needed.{Clause, EachClauseIsNeeded, SomeNodeIsIdle, SomeRoundIsStill};
@@ -8,8 +10,9 @@ ghost use Rattle.round_law.specs.Network.{StillIsDone};
 ghost use Rattle.round_law.specs.Pipeline.{JoinedComesThrough, Net, StartIsSound};
 ghost use Rattle.round_law.specs.Rounds.{AllDoneIsSettled, QuietIsDone, QuietIsSettled};
 ghost use Rattle.round_law.specs.Offers.{KindsAreFew};
-ghost use Rattle.round_law.specs.Rows.{LooksKeep, NoneLowers, StillCounts};
+ghost use Rattle.round_law.specs.Rows.{LooksKeep, NoneLowers, StillCounts, TurnAnswers};
 ghost use Rattle.round_law.specs.Turns.{RoundBegins, RoundEnds, RoundGoesOn, RoundMoves, RoundRests, TurnLowersNone};
+ghost use Rattle.round_law.specs.Views.{LookedIsJoined, PartOpensNone, RxIsGranted, RxIsReceiver, RxLooks, RxPumpRests, TxIsSender, TxLooks, TxPumpRests};
 ghost use Rattle.round_law.specs.Waits.{DoneWaitsOnNothing, Node};
 
 /// A law: a new link is sound, and joined where there is a credit.
@@ -71,6 +74,12 @@ pub fn still_counts()
     ensures never_falls { (credits : ℕ) (before after : Node) → NoneLowers credits before after }
 {}
 
+/// A law: what a turn says by its answer, and of the bytes where its pipes tell, is one of the answers that
+/// rounds are made of.
+pub fn turn_answers()
+    ensures { (credits : ℕ) (before after : Node) (turn : Turn) → TurnAnswers credits before after turn }
+{}
+
 /// A law: a look at its links leaves what an idle or done turn of a node says as it was.
 pub fn looks_keep()
     ensures { (credits : ℕ) (before now after : Node) → LooksKeep credits before now after }
@@ -122,4 +131,18 @@ pub fn round_goes_on()
     ensures lowers_none { (credits n : ℕ) (before after : Net) → TurnLowersNone credits n before after }
     ensures goes_on { (start now after : Net) → RoundGoesOn start now after }
     ensures ends { (credits : ℕ) (start now : Net) → RoundEnds credits start now }
+{}
+
+/// Laws: what the ends of links show is what a run asks of its plain records: of what stands, of a pull
+/// that found no frame, of pumps that moved nothing, and of a look.
+pub fn views_stand()
+    ensures sender { (waiting : ℕ) (l : TxSeen) → TxIsSender waiting l }
+    ensures receiver { (l : RxSeen) → RxIsReceiver l }
+    ensures granted { (l : RxSeen) → RxIsGranted l }
+    ensures none { (box : List ℕ) → PartOpensNone box }
+    ensures tx_rests { (waiting cut : ℕ) (before after : TxSeen) → TxPumpRests waiting cut before after }
+    ensures rx_rests { (cut : ℕ) (before after : RxSeen) → RxPumpRests cut before after }
+    ensures tx_looks { (waiting : ℕ) (before after : TxSeen) → TxLooks waiting before after }
+    ensures rx_looks { (before after : RxSeen) → RxLooks before after }
+    ensures joined { (waiting : ℕ) (tx : TxSeen) (rx : RxSeen) → LookedIsJoined waiting tx rx }
 {}

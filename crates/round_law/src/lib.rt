@@ -9,5 +9,5 @@ pub use laws::{
     all_done_is_settled, done_is_settled, done_waits_on_nothing, each_clause_is_needed, frames_fit,
     joined_comes_through, kinds_are_few, looks_keep, moves_lower, new_is_sound, owes_within,
     quiet_is_done, round_goes_on, run_has_bound, some_round_is_still, start_is_sound, still_counts,
-    still_is_done,
+    still_is_done, turn_answers, views_stand,
 };
