@@ -1,6 +1,7 @@
 -- What the ends of links show, as the plain records of a run.
-use Rattle.std.proofs.Common.{ℕ, ◌+◌, ◌^◌, ◌<◌, ◌≤◌, ◌≡◌, ◌++◌, List, [], length, take, refl, sym, ap, subst, ◌∙◌, ⊎_elim, arith, append-nil, append_assoc, length-append}
+use Rattle.std.proofs.Common.{inl, inr, ◌^◌, ◌-◌, ◌⊎◌, ◌<◌, ℕ, ◌+◌, ◌≤◌, ◌≡◌, ◌++◌, List, [], length, take, refl, sym, ap, subst, ◌∙◌, ⊎_elim, arith, append-nil, append_assoc, length-append}
 use Rattle.std.proofs.lemmas.List.{nil_from_length, length-replicate}
+use Rattle.ds_base.specs.Pipes.{PipeSeen}
 use Rattle.node_frames.specs.Fields.{bytes_of}
 use Rattle.node_frames.specs.Table.{payload_of}
 use Rattle.node_frames.specs.Link.{SpellsAll}
@@ -8,7 +9,7 @@ use Rattle.node_frames.proofs.Bytes.{number_back, length-bytes_of}
 use Rattle.credit_link.specs.Ends.{TxSeen, RxSeen}
 use Rattle.credit_link.specs.Ahead.{length_word}
 use Rattle.round_law.specs.Links.{ring_bytes}
-use Rattle.round_law.specs.Views.{TxIsSender, RxIsReceiver, RxIsGranted, PartOpensNone, TxPumpRests, RxPumpRests, TxLooks, RxLooks, LookedIsJoined}
+use Rattle.round_law.specs.Views.{TxIsSender, RxIsReceiver, RxIsGranted, PartOpensNone, PartIsShort, AnsweredAgain, TxPumpRests, RxPumpRests, TxLooks, RxLooks, LookedIsJoined}
 
 pub tx_is_sender : (waiting : ℕ) (l : TxSeen) → TxIsSender waiting l
 tx_is_sender waiting l stands tells quiet counted =
@@ -114,3 +115,38 @@ looked_is_joined waiting tx rx stands ring credits =
       coins = omega arith;
       slots = omega arith;
     }
+
+pub part_is_short : (box : List ℕ) → PartIsShort box
+part_is_short box part =
+    ⊎_elim
+    (λ (short : length box < 4). omega arith)
+    (λ (cut : (1 ≤ length_word box) × (length_word box ≤ 1024) × (length box < 4 + length_word box)).
+    let less : length box < 4 + length_word box = cut.2 in
+    let most : length_word box ≤ 1024 = cut.1 in
+    omega arith)
+    part
+
+-- the end of the type of a count
+rose_again : (a b c end : ℕ) → c ≤ end → (b ≡ a) ⊎ ((a < b) ⊎ ((a ≡ end) × (b ≡ a))) → (b < c) ⊎ ((b ≡ end) × (c ≡ b)) → (a < c) ⊎ ((a ≡ end) × (c ≡ a))
+rose_again a b c end within first second =
+    ⊎_elim
+    (λ (up : b < c).
+    ⊎_elim
+    (λ (same : b ≡ a). inl (omega arith))
+    (λ (rose : (a < b) ⊎ ((a ≡ end) × (b ≡ a))).
+    ⊎_elim (λ (more : a < b). inl (omega arith)) (λ (stands : (a ≡ end) × (b ≡ a)). let at : a ≡ end = stands.0 in let as_before : b ≡ a = stands.1 in absurd (omega arith)) rose)
+    first)
+    (λ (stands : (b ≡ end) × (c ≡ b)).
+    let at : b ≡ end = stands.0 in
+    let as_before : c ≡ b = stands.1 in
+    ⊎_elim
+    (λ (same : b ≡ a). inr (omega arith, omega arith))
+    (λ (rose : (a < b) ⊎ ((a ≡ end) × (b ≡ a))).
+    ⊎_elim (λ (more : a < b). inl (omega arith)) (λ (stood : (a ≡ end) × (b ≡ a)). let was : b ≡ a = stood.1 in inr (omega arith, omega arith)) rose)
+    first)
+    second
+
+pub answered_again : (start mid after : PipeSeen) → AnsweredAgain start mid after
+answered_again start mid after sure silent heard zero =
+    let none : mid.sure ≡ 0 = zero.0 in
+    (omega arith, rose_again start.silent mid.silent after.silent (2 ^ 64 - 1) (omega arith) silent zero.1)

@@ -1,10 +1,12 @@
 -- What the ends of links show, as the plain records of a run.
-use Rattle.std.specs.Prelude.{ℕ, ◌≡◌, ◌<◌, IsTrue, None, length}
-use Rattle.ds_base.specs.Pipes.{AnsweredZero}
+use Rattle.std.specs.Prelude.{◌⊎◌, ◌≤◌, ℕ, ◌≡◌, ◌<◌, IsTrue, None, length}
+use Rattle.ds_base.specs.Faults.{Rose}
+use Rattle.ds_base.specs.Pipes.{PipeSeen, AnsweredZero}
 use Rattle.byte_rings.specs.Rings.{Looks, IsOnRing}
 use Rattle.credit_link.specs.Frames.{IsCounted}
 use Rattle.credit_link.specs.Ends.{TxSeen, RxSeen, TxStands, RxStands}
 use Rattle.credit_link.specs.Ahead.{IsPart}
+use Rattle.credit_link.specs.Moves.{IsHeard}
 use Rattle.credit_link.specs.Pumping.{TxPumps, RxPumps}
 use Rattle.round_law.specs.Links.{Sender, Receiver, ring_bytes, IsSender, IsReceiver, IsGranted, OpensNoFrame, AreJoined}
 use Rattle.round_law.specs.Rows.{SenderStays, ReceiverStays, SenderIsLookedAt, ReceiverIsLookedAt}
@@ -64,6 +66,10 @@ RxIsGranted l = RxStands l → RxTells l → l.ungranted ≡ 0 → IsCounted l.g
 abbrev pub PartOpensNone : List ℕ → Type 0
 PartOpensNone box = IsPart box → OpensNoFrame box
 
+-- and there is room in the box
+abbrev pub PartIsShort : List ℕ → Type 0
+PartIsShort box = IsPart box → length box < 1028
+
 -- ---- a pump that moved nothing
 
 -- no byte came or went, and a pipe on which there was something to move answered 0
@@ -82,6 +88,11 @@ pub record RxRests (before after : RxSeen) : Type 0 where
 
 abbrev pub RxPumpRests : (cut : ℕ) (before after : RxSeen) → Type 0
 RxPumpRests cut before after = 0 < cut → RxPumps before after cut 0 → RxRests before after
+
+-- a pipe that is asked again in a turn in which nothing moved has answered 0 in the turn
+abbrev pub AnsweredAgain : (start mid after : PipeSeen) → Type 0
+AnsweredAgain start mid after = start.sure ≤ mid.sure → (mid.silent ≡ start.silent) ⊎ Rose start.silent mid.silent → IsHeard after
+    → AnsweredZero mid after → AnsweredZero start after
 
 -- ---- a look
 

@@ -1,6 +1,7 @@
 //! Laws about links and networks. Each is a call that does nothing.
 
 ghost use Rattle.std.specs.Prelude.{ℕ, Bool, IsTrue, List};
+ghost use Rattle.ds_base.specs.Pipes.{PipeSeen};
 ghost use Rattle.credit_link.specs.Ends.{RxSeen, TxSeen};
 ghost use Rattle.credit_link.specs.declared.turn.Turn.{Turn};
 ghost use Rattle.round_law.specs.Links.{DoneIsSettled, OwesWithin, Receiver, Sender, SentSome, StartsSound};
@@ -12,7 +13,7 @@ ghost use Rattle.round_law.specs.Rounds.{AllDoneIsSettled, QuietIsDone, QuietIsS
 ghost use Rattle.round_law.specs.Offers.{KindsAreFew};
 ghost use Rattle.round_law.specs.Rows.{LooksKeep, NoneLowers, StillCounts, TurnAnswers};
 ghost use Rattle.round_law.specs.Turns.{RoundBegins, RoundEnds, RoundGoesOn, RoundMoves, RoundRests, TurnLowersNone};
-ghost use Rattle.round_law.specs.Views.{LookedIsJoined, PartOpensNone, RxIsGranted, RxIsReceiver, RxLooks, RxPumpRests, TxIsSender, TxLooks, TxPumpRests};
+ghost use Rattle.round_law.specs.Views.{AnsweredAgain, LookedIsJoined, PartIsShort, PartOpensNone, RxIsGranted, RxIsReceiver, RxLooks, RxPumpRests, TxIsSender, TxLooks, TxPumpRests};
 ghost use Rattle.round_law.specs.Waits.{DoneWaitsOnNothing, Node};
 
 /// A law: a new link is sound, and joined where there is a credit.
@@ -140,6 +141,8 @@ pub fn views_stand()
     ensures receiver { (l : RxSeen) → RxIsReceiver l }
     ensures granted { (l : RxSeen) → RxIsGranted l }
     ensures none { (box : List ℕ) → PartOpensNone box }
+    ensures short { (box : List ℕ) → PartIsShort box }
+    ensures again { (start mid after : PipeSeen) → AnsweredAgain start mid after }
     ensures tx_rests { (waiting cut : ℕ) (before after : TxSeen) → TxPumpRests waiting cut before after }
     ensures rx_rests { (cut : ℕ) (before after : RxSeen) → RxPumpRests cut before after }
     ensures tx_looks { (waiting : ℕ) (before after : TxSeen) → TxLooks waiting before after }

@@ -1,4 +1,4 @@
-use Rattle.round_law.proofs.Views.{tx_is_sender, rx_is_receiver, rx_is_granted, part_opens_none, tx_pump_rests, rx_pump_rests, tx_looks, rx_looks, looked_is_joined}
+use Rattle.round_law.proofs.Views.{tx_is_sender, rx_is_receiver, rx_is_granted, part_opens_none, part_is_short, answered_again, tx_pump_rests, rx_pump_rests, tx_looks, rx_looks, looked_is_joined}
 use Rattle.round_law.proofs.laws.views_stand.Goals as goal
 
 pub returns-clause-sender : goal.returns-clause-sender
@@ -27,3 +27,9 @@ returns-clause-rx_looks c = rx_looks
 
 pub returns-clause-joined : goal.returns-clause-joined
 returns-clause-joined c = looked_is_joined
+
+pub returns-clause-short : goal.returns-clause-short
+returns-clause-short c = part_is_short
+
+pub returns-clause-again : goal.returns-clause-again
+returns-clause-again c = answered_again
