@@ -12,11 +12,15 @@ use Rattle.job_table.specs.Question.{Question, Everything, Loops, Drops, Paths, 
 
 -- the newest version of a declaration; the oldest is 1
 abbrev pub newest_version : ℕ
-newest_version = 2
+newest_version = 3
 
 -- the longest window, skew and offset
 abbrev pub longest : ℕ
 longest = hour
+
+-- the greatest number of an interface
+abbrev pub last_interface : ℕ
+last_interface = 65535
 
 -- so many, from `least` to `most`
 abbrev pub Counts : ℕ → ℕ → {T : Type 0} → List T → Type 0

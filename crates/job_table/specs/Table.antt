@@ -7,7 +7,7 @@ use Rattle.field_table.specs.declared.field_ref.FieldRef.{FieldRef}
 use Rattle.query_lang.specs.declared.names.Scope.TheVariants.{One}
 use Rattle.query_lang.specs.Expression.{Expression}
 use Rattle.job_values.specs.declared.member.Member.{Member}
-use Rattle.job_values.specs.declared.member.Member.TheVariants.{Version, VxlanPort, Captures, CapturesName, CapturesFile, CapturesOffset, CapturesSkew, Vars, VarsName, VarsTake, Filter, Key, Window, Skew, Profile}
+use Rattle.job_values.specs.declared.member.Member.TheVariants.{Version, VxlanPort, Captures, CapturesName, CapturesFile, CapturesOffset, CapturesSkew, CapturesInterface, Vars, VarsName, VarsTake, Filter, Key, Window, Skew, Profile}
 use Rattle.job_values.specs.declared.fault.JobWhat.TheVariants.{BadName, Twice, Unknown, Field}
 use Rattle.job_values.specs.Said.{Said, ◌>>=◌, or_fault, only_if, within}
 use Rattle.job_values.specs.Values.{number, signed_number, text, flag, list, object, needed, optional, no_stray, items_length, each}
@@ -15,7 +15,7 @@ use Rattle.job_values.specs.Fields.{field_of}
 use Rattle.job_values.specs.Parsed.{expression}
 use Rattle.job_values.specs.Parsed.{shown}
 use Rattle.job_table.specs.declared.capture_lists.CaptureLists.{CaptureLists}
-use Rattle.job_table.specs.Limits.{longest, newest_version}
+use Rattle.job_table.specs.Limits.{longest, last_interface, newest_version}
 use Rattle.query_tokens.specs.Words.{is_reserved}
 use Rattle.job_table.specs.Words.{is_identifier, is_among, number_of}
 
@@ -86,11 +86,19 @@ skew_value i d = number CapturesSkew i d >>= λ n. within CapturesSkew i 0 longe
 abbrev pub capture_skew : ℕ → Data → Said (Option ℕ)
 capture_skew i d = optional None (skew_value i) (codes "skew") d
 
+-- the interface of the file whose packets are the capture's
+abbrev pub interface_value : ℕ → Data → Said (Option ℕ)
+interface_value i d = number CapturesInterface i d >>= λ n. within CapturesInterface i 0 last_interface n (Some n)
+
+abbrev pub capture_interface : ℕ → Data → Said (Option ℕ)
+capture_interface i d = optional None (interface_value i) (codes "interface") d
+
 -- the members that a capture may have, by the version of the declaration
 abbrev pub capture_members : (version : ℕ) → List (List ℕ)
 capture_members version =
     if version == 1 then codes "name" ∷ codes "file" ∷ [] else
-    codes "name" ∷ codes "file" ∷ codes "offset" ∷ codes "skew" ∷ []
+    (if version == 2 then codes "name" ∷ codes "file" ∷ codes "offset" ∷ codes "skew" ∷ [] else
+    codes "name" ∷ codes "file" ∷ codes "offset" ∷ codes "skew" ∷ codes "interface" ∷ [])
 
 -- what captures declare, in the order of their numbers
 pub record Captured : Type 0 where
@@ -98,9 +106,10 @@ pub record Captured : Type 0 where
   pub files : List (List ℕ)
   pub offsets : List ℤ
   pub own_skews : List (Option ℕ)
+  pub interfaces : List (Option ℕ)
 
 abbrev pub no_captures : Captured
-no_captures = record { names = []; files = []; offsets = []; own_skews = [] }
+no_captures = record { names = []; files = []; offsets = []; own_skews = []; interfaces = [] }
 
 -- a capture, on top of those before it
 abbrev pub capture : (version : ℕ) → Captured → Data → Said Captured
@@ -111,11 +120,13 @@ capture version before d = do
   file ← capture_file (length before.names) d
   offset ← capture_offset (length before.names) d
   own_skew ← capture_skew (length before.names) d
+  interface ← capture_interface (length before.names) d
   Ok (record {
     names = before.names ++ name ∷ [];
     files = before.files ++ file ∷ [];
     offsets = before.offsets ++ offset ∷ [];
     own_skews = before.own_skews ++ own_skew ∷ [];
+    interfaces = before.interfaces ++ interface ∷ [];
   })
 
 abbrev pub captures : (version : ℕ) → Data → Said Captured
@@ -128,6 +139,7 @@ captured_of lists = record {
   files = shown lists.files.items;
   offsets = lists.offsets.items;
   own_skews = lists.own_skews.items;
+  interfaces = lists.interfaces.items;
 }
 
 -- the skew of each capture: its own, or that of the job

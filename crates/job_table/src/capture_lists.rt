@@ -11,6 +11,9 @@ pub type SkewList = ItemList<u64>;
 /// The skew of each capture that has one of its own, in nanoseconds.
 pub type OwnSkewList = ItemList<Option<u64>>;
 
+/// The interface of each capture whose packets are its records; none: those of all interfaces.
+pub type InterfaceList = ItemList<Option<u32>>;
+
 /// What captures declare. All lists have the same length.
 #[derive(Drop)]
 pub struct CaptureLists {
@@ -18,4 +21,5 @@ pub struct CaptureLists {
     pub files: NameList,
     pub offsets: OffsetList,
     pub own_skews: OwnSkewList,
+    pub interfaces: InterfaceList,
 }

@@ -1,4 +1,4 @@
-//! The rows of captures: a name, a file, an offset and a skew each.
+//! The rows of captures: a name, a file, an offset, a skew and an interface each.
 
 ghost use Rattle.std.specs.Prelude.{◌≡◌, ◌+◌, ◌≤◌, ◌<◌, [], ◌∷◌, length, All, IfOk, IfSome, OnOk, unsigned_abs};
 ghost use Rattle.std.specs.List.{list_any};
@@ -8,11 +8,12 @@ ghost use Rattle.job_values.specs.Parsed.{shown};
 ghost use Rattle.job_values.specs.Said.{Answers};
 ghost use Rattle.job_values.specs.Values.{no_stray};
 ghost use Rattle.job_values.specs.declared.member.Member.TheVariants.{Captures};
-ghost use Rattle.job_table.specs.Limits.{longest};
+ghost use Rattle.job_table.specs.Limits.{longest, last_interface};
 ghost use Rattle.job_table.specs.Table.{capture_name, capture_file, has_zero, capture_members, capture, captures, captured_of};
 
-use crate::capture_lists::{CaptureLists, OffsetList, OwnSkewList};
+use crate::capture_lists::{CaptureLists, InterfaceList, OffsetList, OwnSkewList};
 use crate::clock_rows::{capture_offset, capture_skew};
+use crate::interface_row::capture_interface;
 use crate::rules::{copied, element, in_limits, is_among, is_identifier, listed, put};
 use ds_base::NameList;
 use job_values::{
@@ -31,6 +32,8 @@ pub fn captures(alloc: Global, value: &Value, version: u32) -> Result<CaptureLis
     ensures offset_limits { IfOk result (λ found. All (λ offset. unsigned_abs offset ≤ longest) found.offsets.items) }
     ensures own_skews { IfOk result (λ found. length found.own_skews.items ≡ length found.names.items) }
     ensures skew_limits { IfOk result (λ found. All (λ own. IfSome own (λ skew. skew ≤ longest)) found.own_skews.items) }
+    ensures interfaces { IfOk result (λ found. length found.interfaces.items ≡ length found.names.items) }
+    ensures interface_limits { IfOk result (λ found. All (λ own. IfSome own (λ n. n ≤ last_interface)) found.interfaces.items) }
 {
     let found = needed(value, "captures", Member::Captures, 0)?;
     let list = listed(found, 1, 64, Member::Captures, 0)?;
@@ -39,6 +42,7 @@ pub fn captures(alloc: Global, value: &Value, version: u32) -> Result<CaptureLis
         files: NameList::new(alloc),
         offsets: OffsetList::new(alloc),
         own_skews: OwnSkewList::new(alloc),
+        interfaces: InterfaceList::new(alloc),
     };
     for i in 0..list.len() {
         capture(alloc, element(list, i), version, &mut lists)?;
@@ -63,6 +67,9 @@ fn capture(
     ensures own_skews { OnOk result (length lists.new.own_skews.items ≡ length lists.old.own_skews.items + 1) }
     ensures skew_limits { OnOk result (All (λ own. IfSome own (λ skew. skew ≤ longest)) lists.old.own_skews.items
         → All (λ own. IfSome own (λ skew. skew ≤ longest)) lists.new.own_skews.items) }
+    ensures interfaces { OnOk result (length lists.new.interfaces.items ≡ length lists.old.interfaces.items + 1) }
+    ensures interface_limits { OnOk result (All (λ own. IfSome own (λ n. n ≤ last_interface)) lists.old.interfaces.items
+        → All (λ own. IfSome own (λ n. n ≤ last_interface)) lists.new.interfaces.items) }
 {
     let index = lists.names.len() as u32;
     let members = object(value, Member::Captures, index)?;
@@ -71,10 +78,12 @@ fn capture(
     let file = copied(alloc, capture_file(value, index)?)?;
     let offset = capture_offset(value, index)?;
     let own_skew = capture_skew(value, index)?;
+    let interface = capture_interface(value, index)?;
     put(&mut lists.names, name)?;
     put(&mut lists.files, file)?;
     put(&mut lists.offsets, offset)?;
     put(&mut lists.own_skews, own_skew)?;
+    put(&mut lists.interfaces, interface)?;
     Ok(())
 }
 
@@ -84,8 +93,12 @@ fn no_stray_member(members: &Map<String, Value>, version: u32, index: u32) -> Re
 {
     match version {
         1 => no_stray(members, &["name", "file"], Member::Captures, index),
-        _ => {
+        2 => {
             let known = ["name", "file", "offset", "skew"];
+            no_stray(members, &known, Member::Captures, index)
+        }
+        _ => {
+            let known = ["name", "file", "offset", "skew", "interface"];
             no_stray(members, &known, Member::Captures, index)
         }
     }

@@ -13,6 +13,7 @@ mod takes;
 mod capture_rows;
 mod clock_rows;
 mod filters;
+mod interface_row;
 mod numbers;
 mod scalars;
 mod variable_rows;
@@ -22,7 +23,7 @@ mod patterns;
 mod queries;
 mod rewrites;
 
-pub use capture_lists::{CaptureLists, OffsetList, OwnSkewList, SkewList};
+pub use capture_lists::{CaptureLists, InterfaceList, OffsetList, OwnSkewList, SkewList};
 pub use capture_rows::captures;
 pub use clock_rows::skews;
 pub use filters::filter;

@@ -11,7 +11,7 @@ use job_values::{JobFault, Member, flag, needed, number};
 use serde_json::Value;
 
 /// The newest version of a declaration; the oldest is 1.
-const NEWEST_VERSION: u64 = 2;
+const NEWEST_VERSION: u64 = 3;
 
 /// The version of the declaration.
 pub fn version(value: &Value) -> Result<u32, JobFault>

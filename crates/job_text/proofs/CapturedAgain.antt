@@ -1,6 +1,6 @@
 -- Captures, as they are printed, are read as the same.
 use Rattle.std.proofs.Common.{◌≡◌, ℕ, ◌≤◌, Bool, true, false, not, List, [], ◌∷◌, ◌++◌, map, length, refl, ◌∙◌, subst, arith, append_assoc, append-nil, All}
-use Rattle.std.specs.Prelude.{◌&&◌, ◌==◌, nat_le, ℤ, pos, unsigned_abs, Option, None, Ok, codes}
+use Rattle.std.specs.Prelude.{◌&&◌, ◌==◌, nat_le, ℤ, pos, unsigned_abs, Option, Some, None, IfSome, Ok, codes}
 use Rattle.std.proofs.lemmas.List.Elements.{All-nil, All-head, All-tail}
 use Rattle.serde_json.specs.Data.{Data}
 use Rattle.serde_json.specs.View.{items_of}
@@ -11,10 +11,10 @@ use Rattle.job_values.specs.Said.{◌>>=◌}
 use Rattle.job_values.specs.Values.{text, needed, no_stray, object, items_length, each}
 use Rattle.job_text.specs.Parts.{capture_value, capture_values}
 use Rattle.job_table.proofs.Elements.{all_more}
-use Rattle.job_table.specs.Limits.{longest}
-use Rattle.job_table.specs.Table.{Captured, no_captures, capture, captures, capture_members, capture_name, capture_file, capture_offset, capture_skew, new_name, has_zero, listed}
+use Rattle.job_table.specs.Limits.{longest, last_interface}
+use Rattle.job_table.specs.Table.{Captured, no_captures, capture, captures, capture_members, capture_name, capture_file, capture_offset, capture_skew, capture_interface, new_name, has_zero, listed}
 use Rattle.job_table.specs.Words.{is_identifier, is_among}
-use Rattle.job_text.proofs.ClocksAgain.{offset_first, skew_first, offset_again, skew_again, offset_read, skew_read}
+use Rattle.job_text.proofs.ClocksAgain.{offset_first, skew_first, interface_first, interface_second, offset_again, skew_again, interface_again, offset_read, skew_read, interface_read}
 use Rattle.job_text.proofs.NewNames.{AllNew, all_new_more}
 use Rattle.job_text.proofs.Said.{bound, tested, ok_same, kept}
 
@@ -58,8 +58,13 @@ filed i d file e =
 abbrev pub AreUnclocked : List ℤ → List (Option ℕ) → Type 0
 AreUnclocked offsets own_skews = All (λ offset. offset ≡ pos 0) offsets × All (λ own. own ≡ None) own_skews
 
+-- in versions 1 and 2 no capture has an interface
+abbrev pub AreUnnamed : List (Option ℕ) → Type 0
+AreUnnamed interfaces = All (λ own. own ≡ None) interfaces
+
 abbrev pub AreCaptures : (version : ℕ) → Captured → Type 0
 AreCaptures version c = AllNew is_identifier [] c.names × AllFiles c.files × (version ≡ 1 → AreUnclocked c.offsets c.own_skews)
+    × (version ≡ 1 → AreUnnamed c.interfaces) × (version ≡ 2 → AreUnnamed c.interfaces)
 
 one_more : (version : ℕ) (before : Captured) (d : Data) (t : Captured) → AreCaptures version before → capture version before d ≡ Ok t → AreCaptures version t
 one_more version before d t all e =
@@ -70,79 +75,110 @@ one_more version before d t all e =
     let four = bound (capture_file i d) _ t three.2 in
     let offset = bound (capture_offset i d) _ t four.2 in
     let own = bound (capture_skew i d) _ t offset.2 in
+    let interface = bound (capture_interface i d) _ t own.2 in
     let five = bound (needed CapturesName i (codes "name") d) _ three.0 three.1 in
     let good = new_named CapturesName i is_identifier before.names five.0 three.0 five.2 in
     let file = filed i d four.0 four.1 in
-    subst (AreCaptures version) (ok_same own.2) (
+    subst (AreCaptures version) (ok_same interface.2) (
       all_new_more is_identifier [] before.names three.0 all.0 good.0 good.1,
       all_files_more before.files four.0 all.1 file.0 file.1,
       λ first. (
         all_more (λ offset. offset ≡ pos 0) before.offsets offset.0 (all.2 first).0 (offset_first version first i d one.0 two.0 one.1 two.1 offset.0 offset.1),
         all_more (λ own. own ≡ None) before.own_skews own.0 (all.2 first).1 (skew_first version first i d one.0 two.0 one.1 two.1 own.0 own.1),
       ),
+      λ first. all_more (λ own. own ≡ None) before.interfaces interface.0 (all.3 first) (interface_first version first i d one.0 two.0 one.1 two.1 interface.0 interface.1),
+      λ second. all_more (λ own. own ≡ None) before.interfaces interface.0 (all.4 second) (interface_second version second i d one.0 two.0 one.1 two.1 interface.0 interface.1),
     )
 
 pub captures_kept : (version : ℕ) (d : Data) (c : Captured) → captures version d ≡ Ok c → AreCaptures version c
 captures_kept version d c e =
     let one = bound (needed Captures 0 (codes "captures") d >>= listed Captures 0 1 64) (each (capture version) no_captures) c e in
-    kept (AreCaptures version) (capture version) (one_more version) no_captures one.0 c
-    (tt, tt, λ first. (All-nil (λ offset. offset ≡ pos 0), All-nil (λ own. own ≡ None))) one.2
+    kept (AreCaptures version) (capture version) (one_more version) no_captures one.0 c (
+      tt,
+      tt,
+      λ first. (All-nil (λ offset. offset ≡ pos 0), All-nil (λ own. own ≡ None)),
+      λ first. All-nil (λ own. own ≡ None),
+      λ second. All-nil (λ own. own ≡ None),
+    ) one.2
 
 -- ---- what is printed
 
 -- these captures, and behind them one more
-abbrev with_one : Captured → (name file : List ℕ) → ℤ → Option ℕ → Captured
-with_one before name file offset own = record {
+abbrev with_one : Captured → (name file : List ℕ) → ℤ → Option ℕ → Option ℕ → Captured
+with_one before name file offset own interface = record {
   names = before.names ++ name ∷ [];
   files = before.files ++ file ∷ [];
   offsets = before.offsets ++ offset ∷ [];
   own_skews = before.own_skews ++ own ∷ [];
+  interfaces = before.interfaces ++ interface ∷ [];
 }
 
-one_again : (version : ℕ) (before : Captured) (name file : List ℕ) (offset : ℤ) (skew : ℕ) → is_identifier name ≡ true → is_among before.names name ≡ false
-    → fits file ≡ true → has_zero file ≡ false → unsigned_abs offset ≤ longest → skew ≤ longest → (first : Bool) → (version == 1) ≡ first
-    → capture version before (capture_value version name file offset skew) ≡ Ok (with_one before name file (offset_read first offset) (skew_read first skew))
-one_again version before name file offset skew good new fit zero moved late true e = rw (e, good, new, fit, zero) refl
-one_again version before name file offset skew good new fit zero moved late false e =
-    rw (e, good, new, fit, zero, offset_again (length before.names) offset moved, skew_again (length before.names) skew late) refl
+none_some : {B : Type 0} {n : ℕ} → Some n ≡ None → B
+none_some e = cc
 
-pub captures_again : (version : ℕ) (before : Captured) (names files : List (List ℕ)) (offsets : List ℤ) (skews : List ℕ)
+-- what is printed of an interface only in version 3
+abbrev IsPrinted : (second : Bool) → Option ℕ → Type 0
+IsPrinted second own = IfSome own (λ n. n ≤ last_interface) × (second ≡ true → own ≡ None)
+
+one_again : (version : ℕ) (before : Captured) (name file : List ℕ) (offset : ℤ) (skew : ℕ) (own : Option ℕ) → is_identifier name ≡ true → is_among before.names name ≡ false
+    → fits file ≡ true → has_zero file ≡ false → unsigned_abs offset ≤ longest → skew ≤ longest → (first second : Bool) → (version == 1) ≡ first → (version == 2) ≡ second
+    → IsPrinted second own
+    → capture version before (capture_value version name file offset skew own) ≡ Ok (with_one before name file (offset_read first offset) (skew_read first skew) (interface_read first own))
+one_again version before name file offset skew own good new fit zero moved late true second e f printed = rw (e, good, new, fit, zero) refl
+one_again version before name file offset skew None good new fit zero moved late false true e f printed =
+    rw (e, f, good, new, fit, zero, offset_again (length before.names) offset moved, skew_again (length before.names) skew late) refl
+one_again version before name file offset skew None good new fit zero moved late false false e f printed =
+    rw (e, f, good, new, fit, zero, offset_again (length before.names) offset moved, skew_again (length before.names) skew late) refl
+one_again version before name file offset skew (Some n) good new fit zero moved late false true e f printed = none_some (printed.1 refl)
+one_again version before name file offset skew (Some n) good new fit zero moved late false false e f printed =
+    rw (e, f, good, new, fit, zero, offset_again (length before.names) offset moved, skew_again (length before.names) skew late, interface_again (length before.names) n printed.0) refl
+
+pub captures_again : (version : ℕ) (before : Captured) (names files : List (List ℕ)) (offsets : List ℤ) (skews : List ℕ) (interfaces : List (Option ℕ))
     → AllNew is_identifier before.names names → AllFiles files → All (λ offset. unsigned_abs offset ≤ longest) offsets → All (λ skew. skew ≤ longest) skews
-    → length files ≡ length names → length offsets ≡ length names → length skews ≡ length names
-    → each (capture version) before (items_of (capture_values version names files offsets skews)) ≡ Ok (record {
+    → All (λ own. IfSome own (λ n. n ≤ last_interface)) interfaces → ((version == 2) ≡ true → AreUnnamed interfaces)
+    → length files ≡ length names → length offsets ≡ length names → length skews ≡ length names → length interfaces ≡ length names
+    → each (capture version) before (items_of (capture_values version names files offsets skews interfaces)) ≡ Ok (record {
       names = before.names ++ names;
       files = before.files ++ files;
       offsets = before.offsets ++ map (offset_read (version == 1)) offsets;
       own_skews = before.own_skews ++ map (skew_read (version == 1)) skews;
+      interfaces = before.interfaces ++ map (interface_read (version == 1)) interfaces;
     })
-captures_again version before [] [] [] [] all fs moved late e f g =
-    rw (append-nil before.names, append-nil before.files, append-nil before.offsets, append-nil before.own_skews) refl
-captures_again version before [] [] [] (s ∷ skews) all fs moved late e f g = absurd (omega (arith, g))
-captures_again version before [] [] (o ∷ offsets) skews all fs moved late e f g = absurd (omega (arith, f))
-captures_again version before [] (file ∷ files) offsets skews all fs moved late e f g = absurd (omega (arith, e))
-captures_again version before (n ∷ names) [] offsets skews all fs moved late e f g = absurd (omega (arith, e))
-captures_again version before (n ∷ names) (file ∷ files) [] skews all fs moved late e f g = absurd (omega (arith, f))
-captures_again version before (n ∷ names) (file ∷ files) (o ∷ offsets) [] all fs moved late e f g = absurd (omega (arith, g))
-captures_again version before (n ∷ names) (file ∷ files) (o ∷ offsets) (s ∷ skews) all fs moved late e f g =
+captures_again version before [] [] [] [] [] all fs moved late few unnamed e f g h =
+    rw (append-nil before.names, append-nil before.files, append-nil before.offsets, append-nil before.own_skews, append-nil before.interfaces) refl
+captures_again version before [] [] [] [] (own ∷ interfaces) all fs moved late few unnamed e f g h = absurd (omega (arith, h))
+captures_again version before [] [] [] (s ∷ skews) interfaces all fs moved late few unnamed e f g h = absurd (omega (arith, g))
+captures_again version before [] [] (o ∷ offsets) skews interfaces all fs moved late few unnamed e f g h = absurd (omega (arith, f))
+captures_again version before [] (file ∷ files) offsets skews interfaces all fs moved late few unnamed e f g h = absurd (omega (arith, e))
+captures_again version before (n ∷ names) [] offsets skews interfaces all fs moved late few unnamed e f g h = absurd (omega (arith, e))
+captures_again version before (n ∷ names) (file ∷ files) [] skews interfaces all fs moved late few unnamed e f g h = absurd (omega (arith, f))
+captures_again version before (n ∷ names) (file ∷ files) (o ∷ offsets) [] interfaces all fs moved late few unnamed e f g h = absurd (omega (arith, g))
+captures_again version before (n ∷ names) (file ∷ files) (o ∷ offsets) (s ∷ skews) [] all fs moved late few unnamed e f g h = absurd (omega (arith, h))
+captures_again version before (n ∷ names) (file ∷ files) (o ∷ offsets) (s ∷ skews) (own ∷ interfaces) all fs moved late few unnamed e f g h =
     let first = version == 1 in
-    rw (one_again version before n file o s all.0 all.1 fs.0 fs.1 (All-head (λ offset. unsigned_abs offset ≤ longest) o offsets moved) (All-head (λ skew. skew ≤ longest) s skews late) first refl)
-    (captures_again version (with_one before n file (offset_read first o) (skew_read first s)) names files offsets skews all.2 fs.2
+    let within : IfSome own (λ n. n ≤ last_interface) = All-head (λ (own : Option ℕ). IfSome own (λ n. n ≤ last_interface)) own interfaces few in
+    rw (one_again version before n file o s own all.0 all.1 fs.0 fs.1 (All-head (λ offset. unsigned_abs offset ≤ longest) o offsets moved) (All-head (λ skew. skew ≤ longest) s skews late) first (version == 2) refl refl (within, λ second. All-head (λ (own : Option ℕ). own ≡ None) own interfaces (unnamed second)))
+    (captures_again version (with_one before n file (offset_read first o) (skew_read first s) (interface_read first own)) names files offsets skews interfaces all.2 fs.2
     (All-tail (λ offset. unsigned_abs offset ≤ longest) o offsets moved) (All-tail (λ skew. skew ≤ longest) s skews late)
-    (omega (arith, e)) (omega (arith, f)) (omega (arith, g))
+    (All-tail (λ (own : Option ℕ). IfSome own (λ n. n ≤ last_interface)) own interfaces few)
+    (λ second. All-tail (λ (own : Option ℕ). own ≡ None) own interfaces (unnamed second))
+    (omega (arith, e)) (omega (arith, f)) (omega (arith, g)) (omega (arith, h))
     ∙ rw (
       append_assoc before.names (n ∷ []) names,
       append_assoc before.files (file ∷ []) files,
       append_assoc before.offsets (offset_read first o ∷ []) (map (offset_read first) offsets),
       append_assoc before.own_skews (skew_read first s ∷ []) (map (skew_read first) skews),
+      append_assoc before.interfaces (interface_read first own ∷ []) (map (interface_read first) interfaces),
     ) refl)
 
 -- so many of these
-pub captures_many : (version : ℕ) (names files : List (List ℕ)) (offsets : List ℤ) (skews : List ℕ)
-    → length files ≡ length names → length offsets ≡ length names → length skews ≡ length names
-    → items_length (items_of (capture_values version names files offsets skews)) ≡ length names
-captures_many version [] files offsets skews e f g = refl
-captures_many version (n ∷ names) [] offsets skews e f g = absurd (omega (arith, e))
-captures_many version (n ∷ names) (file ∷ files) [] skews e f g = absurd (omega (arith, f))
-captures_many version (n ∷ names) (file ∷ files) (o ∷ offsets) [] e f g = absurd (omega (arith, g))
-captures_many version (n ∷ names) (file ∷ files) (o ∷ offsets) (s ∷ skews) e f g =
-    omega (arith, captures_many version names files offsets skews (omega (arith, e)) (omega (arith, f)) (omega (arith, g)))
+pub captures_many : (version : ℕ) (names files : List (List ℕ)) (offsets : List ℤ) (skews : List ℕ) (interfaces : List (Option ℕ))
+    → length files ≡ length names → length offsets ≡ length names → length skews ≡ length names → length interfaces ≡ length names
+    → items_length (items_of (capture_values version names files offsets skews interfaces)) ≡ length names
+captures_many version [] files offsets skews interfaces e f g h = refl
+captures_many version (n ∷ names) [] offsets skews interfaces e f g h = absurd (omega (arith, e))
+captures_many version (n ∷ names) (file ∷ files) [] skews interfaces e f g h = absurd (omega (arith, f))
+captures_many version (n ∷ names) (file ∷ files) (o ∷ offsets) [] interfaces e f g h = absurd (omega (arith, g))
+captures_many version (n ∷ names) (file ∷ files) (o ∷ offsets) (s ∷ skews) [] e f g h = absurd (omega (arith, h))
+captures_many version (n ∷ names) (file ∷ files) (o ∷ offsets) (s ∷ skews) (own ∷ interfaces) e f g h =
+    omega (arith, captures_many version names files offsets skews interfaces (omega (arith, e)) (omega (arith, f)) (omega (arith, g)) (omega (arith, h)))

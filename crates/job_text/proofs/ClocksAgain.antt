@@ -1,4 +1,5 @@
--- Offsets and skews of captures, as they are printed, are read as the same; in version 1 there are none.
+-- Offsets, skews and interfaces of captures, as they are printed, are read as the same; in version 1 there are none,
+-- and in version 2 no interfaces.
 use Rattle.std.proofs.Common.{◌≡◌, ℕ, suc, ◌^◌, ◌≤◌, Bool, true, false, cond, not, Ordering, Less, Equal, Greater, List, refl, sym, ap, ◌∙◌, subst, arith}
 use Rattle.std.specs.Prelude.{◌||◌, ℤ, pos, negsuc, unsigned_abs, bytes_eq, Option, Some, None, Ok, codes, ⊤}
 use Rattle.std.specs.Ordering.{is_eq, match_ordering, nat_cmp}
@@ -12,8 +13,8 @@ use Rattle.job_values.specs.declared.member.Member.TheVariants.{Captures}
 use Rattle.job_values.specs.declared.fault.JobWhat.TheVariants.{WrongKind, Stray}
 use Rattle.job_values.specs.Values.{no_stray, has_stray, is_one_of, otherwise}
 use Rattle.job_values.specs.Values as values
-use Rattle.job_table.specs.Limits.{longest}
-use Rattle.job_table.specs.Table.{offset_value, capture_offset, skew_value, capture_skew, capture_members}
+use Rattle.job_table.specs.Limits.{longest, last_interface}
+use Rattle.job_table.specs.Table.{offset_value, capture_offset, skew_value, capture_skew, interface_value, capture_interface, capture_members}
 use Rattle.job_text.proofs.Said.{given, tested, counted, ok_same}
 
 -- ---- an object with no other members has no member of another name
@@ -87,6 +88,19 @@ module _ (version : ℕ) (first : version ≡ 1) (i : ℕ) (d : Data) (ms : Memb
   skew_first own read =
       ok_same (sym read ∙ ap (otherwise None (skew_value i)) (absent (capture_members 1) (codes "skew") i d ms n is_object none_first refl))
 
+  pub interface_first : (own : Option ℕ) → capture_interface i d ≡ Ok own → own ≡ None
+  interface_first own read =
+      ok_same (sym read ∙ ap (otherwise None (interface_value i)) (absent (capture_members 1) (codes "interface") i d ms n is_object none_first refl))
+
+-- ---- what was read in version 2
+
+pub interface_second : (version : ℕ) → version ≡ 2 → (i : ℕ) (d : Data) (ms : Members) (n : ⊤)
+    → values.object Captures i d ≡ Ok ms → no_stray Captures i (capture_members version) ms ≡ Ok n
+    → (own : Option ℕ) → capture_interface i d ≡ Ok own → own ≡ None
+interface_second version second i d ms n is_object none own read =
+    ok_same (sym read ∙ ap (otherwise None (interface_value i)) (absent (capture_members 2) (codes "interface") i d ms n is_object
+    (subst (λ v. no_stray Captures i (capture_members v) ms ≡ Ok n) second none) refl))
+
 -- ---- what is printed
 
 pub offset_again : (i : ℕ) (offset : ℤ) → unsigned_abs offset ≤ longest → offset_value i (number (of_integer offset)) ≡ Ok offset
@@ -96,9 +110,15 @@ offset_again i (negsuc n) most = rw (counted 0 longest (suc n) (omega arith) mos
 pub skew_again : (i : ℕ) (skew : ℕ) → skew ≤ longest → skew_value i (number (unsigned skew)) ≡ Ok (Some skew)
 skew_again i skew most = rw (counted 0 longest skew (omega arith) most) refl
 
--- what is read of an offset and of a skew, where they are printed only from version 2 on
+pub interface_again : (i : ℕ) (n : ℕ) → n ≤ last_interface → interface_value i (number (unsigned n)) ≡ Ok (Some n)
+interface_again i n most = rw (counted 0 last_interface n (omega arith) most) refl
+
+-- what is read of an offset, of a skew and of an interface, where they are printed only from version 2 on
 abbrev pub offset_read : (first : Bool) → ℤ → ℤ
 offset_read first offset = cond first (pos 0) offset
 
 abbrev pub skew_read : (first : Bool) → ℕ → Option ℕ
 skew_read first skew = cond first None (Some skew)
+
+abbrev pub interface_read : (first : Bool) → Option ℕ → Option ℕ
+interface_read first own = cond first None own

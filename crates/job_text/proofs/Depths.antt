@@ -1,13 +1,13 @@
 -- The values of a job's parts are a few levels deep.
 use Rattle.std.proofs.Common.{ℕ, suc, ◌^◌, ◌≤◌, Bool, true, false, cond, List, [], ◌∷◌, map, arith}
-use Rattle.std.specs.Prelude.{nat_lt, ◌==◌, ℤ, pos, negsuc}
+use Rattle.std.specs.Prelude.{nat_lt, ◌==◌, ℤ, pos, negsuc, Option, Some, None}
 use Rattle.std.specs.Fmt.{decimal}
 use Rattle.std.proofs.Math.Nat.{max-le}
 use Rattle.field_table.specs.declared.field_ref.FieldRef.{FieldRef}
 use Rattle.serde_json.specs.Data.{Data, unsigned, number, string, depth, items_depth}
 use Rattle.serde_json.specs.Find.{of_integer}
 use Rattle.serde_json.specs.View.{items_of}
-use Rattle.job_text.specs.Parts.{both_of, wide_value, plain_capture, clocked_capture, capture_values, field_value, var_value, set_names, pattern_value, row_value, rule_value, ruling_value, question_value}
+use Rattle.job_text.specs.Parts.{both_of, wide_value, plain_capture, clocked_capture, later_capture, capture_values, field_value, var_value, set_names, pattern_value, row_value, rule_value, ruling_value, question_value}
 use Rattle.job_table.specs.Question.{Question, Everything, Loops, Drops, Paths, Rewrites, Tests, Manner, Same, Less, Table}
 
 pub listed : {A : Type 0} (k : ℕ) (value : A → Data) → ((x : A) → depth (value x) ≤ k) → (xs : List A) → items_depth (items_of (map value xs)) ≤ k
@@ -57,19 +57,25 @@ signed (negsuc n) k = none k
 clocked : (name file : List ℕ) (offset : ℤ) (skew : ℕ) → depth (clocked_capture name file offset skew) ≤ 2
 clocked name file offset skew = up _ 1 (max-le (none 1) (max-le (none 1) (max-le (signed offset 1) (max-le (none 1) (none 1)))))
 
-by_version : (first : Bool) (name file : List ℕ) (offset : ℤ) (skew : ℕ)
-    → depth (cond first (plain_capture name file) (clocked_capture name file offset skew)) ≤ 2
-by_version true name file offset skew = omega arith
-by_version false name file offset skew = clocked name file offset skew
+later : (name file : List ℕ) (offset : ℤ) (skew : ℕ) (own : Option ℕ) → depth (later_capture name file offset skew own) ≤ 2
+later name file offset skew None = clocked name file offset skew
+later name file offset skew (Some n) =
+    up _ 1 (max-le (none 1) (max-le (none 1) (max-le (none 1) (max-le (signed offset 1) (max-le (none 1) (none 1))))))
 
-pub captures : (version : ℕ) (names files : List (List ℕ)) (offsets : List ℤ) (skews : List ℕ)
-    → items_depth (items_of (capture_values version names files offsets skews)) ≤ 2
-captures version [] files offsets skews = omega arith
-captures version (name ∷ names) [] offsets skews = omega arith
-captures version (name ∷ names) (file ∷ files) [] skews = omega arith
-captures version (name ∷ names) (file ∷ files) (offset ∷ offsets) [] = omega arith
-captures version (name ∷ names) (file ∷ files) (offset ∷ offsets) (skew ∷ skews) =
-    max-le (by_version (version == 1) name file offset skew) (captures version names files offsets skews)
+by_version : (first : Bool) (name file : List ℕ) (offset : ℤ) (skew : ℕ) (own : Option ℕ)
+    → depth (cond first (plain_capture name file) (later_capture name file offset skew own)) ≤ 2
+by_version true name file offset skew own = omega arith
+by_version false name file offset skew own = later name file offset skew own
+
+pub captures : (version : ℕ) (names files : List (List ℕ)) (offsets : List ℤ) (skews : List ℕ) (interfaces : List (Option ℕ))
+    → items_depth (items_of (capture_values version names files offsets skews interfaces)) ≤ 2
+captures version [] files offsets skews interfaces = omega arith
+captures version (name ∷ names) [] offsets skews interfaces = omega arith
+captures version (name ∷ names) (file ∷ files) [] skews interfaces = omega arith
+captures version (name ∷ names) (file ∷ files) (offset ∷ offsets) [] interfaces = omega arith
+captures version (name ∷ names) (file ∷ files) (offset ∷ offsets) (skew ∷ skews) [] = omega arith
+captures version (name ∷ names) (file ∷ files) (offset ∷ offsets) (skew ∷ skews) (own ∷ interfaces) =
+    max-le (by_version (version == 1) name file offset skew own) (captures version names files offsets skews interfaces)
 
 pub var : (name : List ℕ) (take : List FieldRef) → depth (var_value name take) ≤ 2
 var name take = up _ 1 (max-le (none 1) (max-le (up _ 0 (listed 0 field_value (λ _. none 0) take)) (none 1)))

@@ -1,13 +1,13 @@
 -- No number of the values of a job's parts is a float.
 use Rattle.std.proofs.Common.{◌≡◌, ℕ, ◌^◌, Bool, true, false, cond, List, [], ◌∷◌, map, refl}
-use Rattle.std.specs.Prelude.{◌||◌, nat_lt, ◌==◌, ℤ, pos, negsuc}
+use Rattle.std.specs.Prelude.{◌||◌, nat_lt, ◌==◌, ℤ, pos, negsuc, Option, Some, None}
 use Rattle.field_table.specs.declared.field_ref.FieldRef.{FieldRef}
 use Rattle.serde_json.specs.Data.{Data, unsigned, number, string}
 use Rattle.serde_json.specs.Find.{of_integer}
 use Rattle.serde_json.specs.View.{items_of}
 use Rattle.serde_json.specs.Written.{has_float, items_have_float}
 use Rattle.std.specs.Fmt.{decimal}
-use Rattle.job_text.specs.Parts.{both_of, wide_value, plain_capture, clocked_capture, capture_values, field_value, var_value, set_names, pattern_value, row_value, rule_value, ruling_value, question_value}
+use Rattle.job_text.specs.Parts.{both_of, wide_value, plain_capture, clocked_capture, later_capture, capture_values, field_value, var_value, set_names, pattern_value, row_value, rule_value, ruling_value, question_value}
 use Rattle.job_table.specs.Question.{Question, Everything, Loops, Drops, Paths, Rewrites, Tests, Manner, Same, Less, Table}
 
 pub neither : (a b : Bool) → a ≡ false → b ≡ false → (a || b) ≡ false
@@ -52,19 +52,21 @@ signed : (z : ℤ) → has_float (number (of_integer z)) ≡ false
 signed (pos n) = refl
 signed (negsuc n) = refl
 
-by_version : (first : Bool) (name file : List ℕ) (offset : ℤ) (skew : ℕ)
-    → has_float (cond first (plain_capture name file) (clocked_capture name file offset skew)) ≡ false
-by_version true name file offset skew = refl
-by_version false name file offset skew = neither _ _ (signed offset) refl
+by_version : (first : Bool) (name file : List ℕ) (offset : ℤ) (skew : ℕ) (own : Option ℕ)
+    → has_float (cond first (plain_capture name file) (later_capture name file offset skew own)) ≡ false
+by_version true name file offset skew own = refl
+by_version false name file offset skew None = neither _ _ (signed offset) refl
+by_version false name file offset skew (Some n) = neither _ _ (signed offset) refl
 
-pub captures : (version : ℕ) (names files : List (List ℕ)) (offsets : List ℤ) (skews : List ℕ)
-    → items_have_float (items_of (capture_values version names files offsets skews)) ≡ false
-captures version [] files offsets skews = refl
-captures version (name ∷ names) [] offsets skews = refl
-captures version (name ∷ names) (file ∷ files) [] skews = refl
-captures version (name ∷ names) (file ∷ files) (offset ∷ offsets) [] = refl
-captures version (name ∷ names) (file ∷ files) (offset ∷ offsets) (skew ∷ skews) =
-    neither _ _ (by_version (version == 1) name file offset skew) (captures version names files offsets skews)
+pub captures : (version : ℕ) (names files : List (List ℕ)) (offsets : List ℤ) (skews : List ℕ) (interfaces : List (Option ℕ))
+    → items_have_float (items_of (capture_values version names files offsets skews interfaces)) ≡ false
+captures version [] files offsets skews interfaces = refl
+captures version (name ∷ names) [] offsets skews interfaces = refl
+captures version (name ∷ names) (file ∷ files) [] skews interfaces = refl
+captures version (name ∷ names) (file ∷ files) (offset ∷ offsets) [] interfaces = refl
+captures version (name ∷ names) (file ∷ files) (offset ∷ offsets) (skew ∷ skews) [] = refl
+captures version (name ∷ names) (file ∷ files) (offset ∷ offsets) (skew ∷ skews) (own ∷ interfaces) =
+    neither _ _ (by_version (version == 1) name file offset skew own) (captures version names files offsets skews interfaces)
 
 pub var : (name : List ℕ) (take : List FieldRef) → has_float (var_value name take) ≡ false
 var name take = neither _ _ (listed field_value (λ _. refl) take) refl

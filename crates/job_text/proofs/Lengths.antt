@@ -1,6 +1,6 @@
 -- How long the texts of a job's parts are at most.
 use Rattle.std.proofs.Common.{◌≡◌, ℕ, zero, suc, ◌+◌, ◌*◌, ◌/◌, ◌%◌, ◌^◌, ◌<◌, ◌≤◌, Bool, true, false, cond, List, [], ◌∷◌, ◌++◌, length, map, refl, ap, arith, All}
-use Rattle.std.specs.Prelude.{◌&&◌, ◌||◌, ◌==◌, ℤ, pos, negsuc, unsigned_abs, nat_lt, nat_le, flat_map, slice_get, slice_index, not, unwrap_or, codes}
+use Rattle.std.specs.Prelude.{◌&&◌, ◌||◌, ◌==◌, ℤ, pos, negsuc, unsigned_abs, nat_lt, nat_le, flat_map, slice_get, slice_index, not, unwrap_or, Option, Some, None, IfSome, codes}
 use Rattle.std.specs.Char.{digit_char}
 use Rattle.std.specs.Fmt.{decimal}
 use Rattle.std.specs.Int.{bit_at}
@@ -22,9 +22,9 @@ use Rattle.serde_json.specs.Data.{Data, unsigned, number, string, array, object,
 use Rattle.serde_json.specs.Find.{of_integer}
 use Rattle.serde_json.specs.View.{items_of}
 use Rattle.serde_json.specs.Written.{compact_text, items_text, members_text, comma_if}
-use Rattle.job_text.specs.Parts.{both_of, named, name_at, wide_value, plain_capture, clocked_capture, capture_value, capture_values, field_value, var_value, set_names, step_word, pattern_text, pattern_value, row_value, rule_value, ruling_value, question_value}
+use Rattle.job_text.specs.Parts.{both_of, named, name_at, wide_value, plain_capture, clocked_capture, later_capture, capture_value, capture_values, field_value, var_value, set_names, step_word, pattern_text, pattern_value, row_value, rule_value, ruling_value, question_value}
 use Rattle.job_table.specs.Question.{Question, Everything, Loops, Drops, Paths, Rewrites, Tests, Manner, Same, Less, Table}
-use Rattle.job_table.specs.Limits.{longest, Counts, IsPattern, IsRow, IsManner, IsRuling, IsQuestion}
+use Rattle.job_table.specs.Limits.{longest, last_interface, Counts, IsPattern, IsRow, IsManner, IsRuling, IsQuestion}
 use Rattle.job_table.specs.Table.{is_free}
 use Rattle.job_table.specs.Words.{is_identifier}
 use Rattle.job_text.proofs.CapturedAgain.{AllFiles}
@@ -177,29 +177,50 @@ clocked_short name file offset skew one two moved late =
     (one_more (codes "offset") (number (of_integer offset)) 6 14 49 (omega arith) (signed_short offset moved)
     (one_more (codes "skew") (number (unsigned skew)) 4 20 1 (omega arith) (unsigned_short skew late) ended))))
 
-by_version : (first : Bool) (name file : List ℕ) (offset : ℤ) (skew : ℕ) → length name ≤ 32 → length file ≤ 255 → unsigned_abs offset ≤ longest → skew ≤ longest
-    → length (compact_text (cond first (plain_capture name file) (clocked_capture name file offset skew))) ≤ 1886
-by_version true name file offset skew one two moved late = plain_short name file one two
-by_version false name file offset skew one two moved late = clocked_short name file offset skew one two moved late
+interface_short : (n : ℕ) → n ≤ last_interface → length (compact_text (number (unsigned n))) ≤ 5
+interface_short n most = decimal_short 5 n (omega arith) (omega (arith, most)) (omega (arith, most))
 
-pub captures_short : (later : Bool) (version : ℕ) (earlier names files : List (List ℕ)) (offsets : List ℤ) (skews : List ℕ)
+later_short : (name file : List ℕ) (offset : ℤ) (skew : ℕ) (own : Option ℕ) → length name ≤ 32 → length file ≤ 255 → unsigned_abs offset ≤ longest → skew ≤ longest
+    → IfSome own (λ n. n ≤ last_interface) → length (compact_text (later_capture name file offset skew own)) ≤ 1949
+later_short name file offset skew None one two moved late few = more (clocked_short name file offset skew one two moved late)
+  where
+    more : {n : ℕ} → n ≤ 1886 → n ≤ 1949
+    more h = omega (arith, h)
+later_short name file offset skew (Some n) one two moved late few =
+    object_short 1948 (one_more (codes "file") (string file) 4 1532 388 (omega arith) (string_short file 255 two)
+    (one_more (codes "interface") (number (unsigned n)) 9 5 325 (omega arith) (interface_short n few)
+    (one_more (codes "name") (string name) 4 194 103 (omega arith) (string_short name 32 one)
+    (one_more (codes "offset") (number (of_integer offset)) 6 14 49 (omega arith) (signed_short offset moved)
+    (one_more (codes "skew") (number (unsigned skew)) 4 20 1 (omega arith) (unsigned_short skew late) ended)))))
+
+by_version : (first : Bool) (name file : List ℕ) (offset : ℤ) (skew : ℕ) (own : Option ℕ) → length name ≤ 32 → length file ≤ 255 → unsigned_abs offset ≤ longest → skew ≤ longest
+    → IfSome own (λ n. n ≤ last_interface) → length (compact_text (cond first (plain_capture name file) (later_capture name file offset skew own))) ≤ 1949
+by_version true name file offset skew own one two moved late few = more (plain_short name file one two)
+  where
+    more : {n : ℕ} → n ≤ 1886 → n ≤ 1949
+    more h = omega (arith, h)
+by_version false name file offset skew own one two moved late few = later_short name file offset skew own one two moved late few
+
+pub captures_short : (later : Bool) (version : ℕ) (earlier names files : List (List ℕ)) (offsets : List ℤ) (skews : List ℕ) (interfaces : List (Option ℕ))
     → AllNew is_identifier earlier names → AllFiles files → All (λ offset. unsigned_abs offset ≤ longest) offsets → All (λ skew. skew ≤ longest) skews
-    → length (items_text later (items_of (capture_values version names files offsets skews))) ≤ 1887 * length names + 1
-captures_short later version earlier [] files offsets skews new all moved late = omega arith
-captures_short later version earlier (name ∷ names) [] offsets skews new all moved late = omega arith
-captures_short later version earlier (name ∷ names) (file ∷ files) [] skews new all moved late = omega arith
-captures_short later version earlier (name ∷ names) (file ∷ files) (offset ∷ offsets) [] new all moved late = omega arith
-captures_short later version earlier (name ∷ names) (file ∷ files) (offset ∷ offsets) (skew ∷ skews) new all moved late =
+    → All (λ own. IfSome own (λ n. n ≤ last_interface)) interfaces
+    → length (items_text later (items_of (capture_values version names files offsets skews interfaces))) ≤ 1950 * length names + 1
+captures_short later version earlier [] files offsets skews interfaces new all moved late within = omega arith
+captures_short later version earlier (name ∷ names) [] offsets skews interfaces new all moved late within = omega arith
+captures_short later version earlier (name ∷ names) (file ∷ files) [] skews interfaces new all moved late within = omega arith
+captures_short later version earlier (name ∷ names) (file ∷ files) (offset ∷ offsets) [] interfaces new all moved late within = omega arith
+captures_short later version earlier (name ∷ names) (file ∷ files) (offset ∷ offsets) (skew ∷ skews) [] new all moved late within = omega arith
+captures_short later version earlier (name ∷ names) (file ∷ files) (offset ∷ offsets) (skew ∷ skews) (own ∷ interfaces) new all moved late within =
     let few = leb-true (length file) 255 (and_parts (nat_le 1 (length file)) (nat_le (length file) 255) all.0).1 in
-    let value : Data = capture_value version name file offset skew in
-    let rest : List Data = capture_values version names files offsets skews in
+    let value : Data = capture_value version name file offset skew own in
+    let rest : List Data = capture_values version names files offsets skews interfaces in
     omega (
       arith,
       length-append (comma_if later) (compact_text value ++ items_text true (items_of rest)),
       comma_short later,
       length-append (compact_text value) (items_text true (items_of rest)),
-      by_version (version == 1) name file offset skew (identifier_short name new.0) few (All-head (λ offset. unsigned_abs offset ≤ longest) offset offsets moved) (All-head (λ skew. skew ≤ longest) skew skews late),
-      captures_short true version (earlier ++ name ∷ []) names files offsets skews new.2 all.2 (All-tail (λ offset. unsigned_abs offset ≤ longest) offset offsets moved) (All-tail (λ skew. skew ≤ longest) skew skews late),
+      by_version (version == 1) name file offset skew own (identifier_short name new.0) few (All-head (λ offset. unsigned_abs offset ≤ longest) offset offsets moved) (All-head (λ skew. skew ≤ longest) skew skews late) (All-head (λ (own : Option ℕ). IfSome own (λ n. n ≤ last_interface)) own interfaces within),
+      captures_short true version (earlier ++ name ∷ []) names files offsets skews interfaces new.2 all.2 (All-tail (λ offset. unsigned_abs offset ≤ longest) offset offsets moved) (All-tail (λ skew. skew ≤ longest) skew skews late) (All-tail (λ (own : Option ℕ). IfSome own (λ n. n ≤ last_interface)) own interfaces within),
     )
 
 kind_short : (k : Kind) → length (kind_text k) ≤ 5

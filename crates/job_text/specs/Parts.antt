@@ -1,6 +1,6 @@
 -- The canonical values of a job's parts, as JSON: the members of each object in byte order, with all that
 -- are optional.
-use Rattle.std.specs.Prelude.{ℕ, ◌+◌, ◌^◌, ◌==◌, ℤ, List, [], ◌∷◌, ◌++◌, map, flat_map, nat_lt, if◌then◌else◌, slice_get, unwrap_or, codes}
+use Rattle.std.specs.Prelude.{ℕ, ◌+◌, ◌^◌, ◌==◌, ℤ, List, [], ◌∷◌, ◌++◌, map, flat_map, nat_lt, if◌then◌else◌, slice_get, Option, Some, None, unwrap_or, codes}
 use Rattle.std.specs.Fmt.{decimal}
 use Rattle.std.specs.Int.{bit_at}
 use Rattle.serde_json.specs.Data.{Data, unsigned, number, string, array, object, no_members, member}
@@ -50,16 +50,27 @@ clocked_capture name file offset skew = object (
     member (codes "offset") (number (of_integer offset)) (
     member (codes "skew") (number (unsigned skew)) no_members))))
 
+-- the same, and its interface where it was given
+abbrev pub later_capture : (name file : List ℕ) → (offset : ℤ) → (skew : ℕ) → Option ℕ → Data
+later_capture name file offset skew None = clocked_capture name file offset skew
+later_capture name file offset skew (Some interface) = object (
+    member (codes "file") (string file) (
+    member (codes "interface") (number (unsigned interface)) (
+    member (codes "name") (string name) (
+    member (codes "offset") (number (of_integer offset)) (
+    member (codes "skew") (number (unsigned skew)) no_members)))))
+
 -- a capture, by the version of the declaration
-abbrev pub capture_value : (version : ℕ) → (name file : List ℕ) → (offset : ℤ) → (skew : ℕ) → Data
-capture_value version name file offset skew =
-    if version == 1 then plain_capture name file else clocked_capture name file offset skew
+abbrev pub capture_value : (version : ℕ) → (name file : List ℕ) → (offset : ℤ) → (skew : ℕ) → Option ℕ → Data
+capture_value version name file offset skew interface =
+    if version == 1 then plain_capture name file else later_capture name file offset skew interface
 
 -- a value for each capture, from lists of the same length
-abbrev pub capture_values : (version : ℕ) → (names files : List (List ℕ)) → (offsets : List ℤ) → (skews : List ℕ) → List Data
-capture_values version (name ∷ names) (file ∷ files) (offset ∷ offsets) (skew ∷ skews) =
-    capture_value version name file offset skew ∷ capture_values version names files offsets skews
-capture_values version _ _ _ _ = []
+abbrev pub capture_values : (version : ℕ) → (names files : List (List ℕ)) → (offsets : List ℤ) → (skews : List ℕ) → (interfaces : List (Option ℕ))
+    → List Data
+capture_values version (name ∷ names) (file ∷ files) (offset ∷ offsets) (skew ∷ skews) (interface ∷ interfaces) =
+    capture_value version name file offset skew interface ∷ capture_values version names files offsets skews interfaces
+capture_values version _ _ _ _ _ = []
 
 abbrev pub field_value : FieldRef → Data
 field_value field = string (field_text field)

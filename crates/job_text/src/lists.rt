@@ -5,11 +5,11 @@ ghost use Rattle.serde_json.specs.Data.{array};
 ghost use Rattle.serde_json.specs.View.{view, items_of};
 ghost use Rattle.job_values.specs.Parsed.{shown};
 ghost use Rattle.job_table.specs.Question.{items_of as lists_of};
-ghost use Rattle.job_text.specs.Parts.{both_of, list_of, name_at, named, plain_capture, clocked_capture, capture_value, capture_values, field_value, var_value};
+ghost use Rattle.job_text.specs.Parts.{both_of, list_of, name_at, named, plain_capture, clocked_capture, later_capture, capture_value, capture_values, field_value, var_value};
 
 use ds_base::{KeyList, NameList};
 use field_table::{FieldRef, print_field};
-use job_table::{FieldList, OffsetList, SkewList, TakeList};
+use job_table::{FieldList, InterfaceList, OffsetList, SkewList, TakeList};
 use serde_json::{Value, json, push};
 use std::alloc::{AllocError, Global};
 
@@ -21,12 +21,14 @@ pub fn captures_value(
     files: &NameList,
     offsets: &OffsetList,
     skews: &SkewList,
+    interfaces: &InterfaceList,
 ) -> Result<Value, AllocError>
     requires files { length files.now.items ≡ length names.now.items }
     requires offsets { length offsets.now.items ≡ length names.now.items }
     requires skews { length skews.now.items ≡ length names.now.items }
+    requires interfaces { length interfaces.now.items ≡ length names.now.items }
     ensures { IfOk result (λ v. view v ≡ array (items_of
-        (capture_values version (shown names.now.items) (shown files.now.items) offsets.now.items skews.now.items))) }
+        (capture_values version (shown names.now.items) (shown files.now.items) offsets.now.items skews.now.items interfaces.now.items))) }
 {
     let mut list = Vec::new(alloc);
     for i in 0..names.len() {
@@ -39,6 +41,7 @@ pub fn captures_value(
             file,
             nth_offset(offsets, i),
             nth_skew(skews, i),
+            nth_interface(interfaces, i),
         )?;
         push(&mut list, capture)?;
     }
@@ -52,12 +55,13 @@ fn capture_value(
     file: &str,
     offset: i64,
     skew: u64,
+    interface: Option<u32>,
 ) -> Result<Value, AllocError>
-    ensures { IfOk result (λ v. view v ≡ capture_value version name.now file.now offset skew) }
+    ensures { IfOk result (λ v. view v ≡ capture_value version name.now file.now offset skew interface) }
 {
     match version {
         1 => plain_capture(alloc, name, file),
-        _ => clocked_capture(alloc, name, file, offset, skew),
+        _ => later_capture(alloc, name, file, offset, skew, interface),
     }
 }
 
@@ -65,6 +69,35 @@ fn plain_capture(alloc: Global, name: &str, file: &str) -> Result<Value, AllocEr
     ensures { IfOk result (λ v. view v ≡ plain_capture name.now file.now) }
 {
     json!(in alloc; {"file": file, "name": name})
+}
+
+fn later_capture(
+    alloc: Global,
+    name: &str,
+    file: &str,
+    offset: i64,
+    skew: u64,
+    interface: Option<u32>,
+) -> Result<Value, AllocError>
+    ensures { IfOk result (λ v. view v ≡ later_capture name.now file.now offset skew interface) }
+{
+    match interface {
+        None => clocked_capture(alloc, name, file, offset, skew),
+        Some(n) => interface_capture(alloc, name, file, offset, skew, n),
+    }
+}
+
+fn interface_capture(
+    alloc: Global,
+    name: &str,
+    file: &str,
+    offset: i64,
+    skew: u64,
+    interface: u32,
+) -> Result<Value, AllocError>
+    ensures { IfOk result (λ v. view v ≡ later_capture name.now file.now offset skew (Some interface)) }
+{
+    json!(in alloc; {"file": file, "interface": interface, "name": name, "offset": offset, "skew": skew})
 }
 
 fn clocked_capture(
@@ -95,6 +128,15 @@ fn nth_skew(skews: &SkewList, i: u64) -> u64
     ensures { drop i skews.now.items ≡ result ∷ drop (i + 1) skews.now.items }
 {
     *skews.get(i)
+}
+
+// The interface of capture number `i`.
+#[tactic(auto, using(ds_base::proofs::Places::drop_at))]
+fn nth_interface(interfaces: &InterfaceList, i: u64) -> Option<u32>
+    requires { i < length interfaces.now.items }
+    ensures { drop i interfaces.now.items ≡ result ∷ drop (i + 1) interfaces.now.items }
+{
+    *interfaces.get(i)
 }
 
 /// The variables as a value: their names and their alternatives.

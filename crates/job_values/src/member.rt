@@ -13,6 +13,7 @@ pub enum Member {
     CapturesFile,
     CapturesOffset,
     CapturesSkew,
+    CapturesInterface,
     Vars,
     VarsName,
     VarsTake,

@@ -7,7 +7,7 @@ use Rattle.job_values.specs.declared.fault.JobFault.{JobFault}
 use Rattle.job_values.specs.declared.fault.JobWhat.{JobWhat}
 use Rattle.job_values.specs.declared.fault.JobWhat.TheVariants.{NotJson, Missing, WrongKind, Stray, BadName, Twice, Unknown, Field, Expression, Limit}
 use Rattle.job_values.specs.declared.member.Member.{Member}
-use Rattle.job_values.specs.declared.member.Member.TheVariants.{Whole, Version, VxlanPort, Captures, CapturesName, CapturesFile, CapturesOffset, CapturesSkew, Vars, VarsName, VarsTake, Filter, Key, Window, Skew, Profile, Query, QueryKind, QueryHop, QueryExits, QueryAllow, QueryFrom, QueryTo, QueryRules, QueryRulesVar, QueryRulesHow, QueryRulesBy, QueryRulesRows, QueryExpr}
+use Rattle.job_values.specs.declared.member.Member.TheVariants.{Whole, Version, VxlanPort, Captures, CapturesName, CapturesFile, CapturesOffset, CapturesSkew, CapturesInterface, Vars, VarsName, VarsTake, Filter, Key, Window, Skew, Profile, Query, QueryKind, QueryHop, QueryExits, QueryAllow, QueryFrom, QueryTo, QueryRules, QueryRulesVar, QueryRulesHow, QueryRulesBy, QueryRulesRows, QueryExpr}
 
 -- a member by its path in the declaration
 abbrev pub member_text : Member → List ℕ
@@ -19,6 +19,7 @@ member_text CapturesName = codes "captures.name"
 member_text CapturesFile = codes "captures.file"
 member_text CapturesOffset = codes "captures.offset"
 member_text CapturesSkew = codes "captures.skew"
+member_text CapturesInterface = codes "captures.interface"
 member_text Vars = codes "vars"
 member_text VarsName = codes "vars.name"
 member_text VarsTake = codes "vars.take"

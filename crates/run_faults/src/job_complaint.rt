@@ -73,7 +73,7 @@ fn expression_what(what: QueryWhat) -> &'static str
 /// A member by its path in the declaration.
 fn member_text(member: Member) -> &'static str
     ensures text { result.now ≡ member_text member }
-    ensures short { length result.now ≤ 16 }
+    ensures short { length result.now ≤ 18 }
 {
     match member {
         Member::Whole => "whole",
@@ -84,6 +84,7 @@ fn member_text(member: Member) -> &'static str
         Member::CapturesFile => "captures.file",
         Member::CapturesOffset => "captures.offset",
         Member::CapturesSkew => "captures.skew",
+        Member::CapturesInterface => "captures.interface",
         Member::Vars => "vars",
         Member::VarsName => "vars.name",
         Member::VarsTake => "vars.take",

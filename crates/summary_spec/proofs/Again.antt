@@ -1,6 +1,6 @@
 -- The canonical text of a job that was read is read as the same job.
 use Rattle.std.proofs.Common.{◌≡◌, ℕ, ◌+◌, ◌<◌, ◌≤◌, List, [], ◌∷◌, ◌++◌, length, refl, sym, ap, ◌∙◌, subst, arith, All}
-use Rattle.std.specs.Prelude.{◌==◌, ℤ, pos, Bool, true, false, map, Ok, Some, nat_le, IsUtf8}
+use Rattle.std.specs.Prelude.{◌==◌, ℤ, pos, Bool, true, false, map, Option, None, Ok, Some, nat_le, IsUtf8}
 use Rattle.std.proofs.lemmas.Bool.{le-leb, eqb-true}
 use Rattle.std.proofs.lemmas.List.Elements.{All-head, All-tail}
 use Rattle.field_table.specs.declared.field_ref.FieldRef.{FieldRef}
@@ -20,7 +20,7 @@ use Rattle.summary_spec.specs.Reads.{most_bytes, json, members, declaration, rea
 use Rattle.job_table.specs.Table.{Captured, no_captures, version, vxlan_port, captures, skews_or, vars, filter, key, window, skew, profile, is_free}
 use Rattle.job_table.specs.Words.{is_identifier}
 use Rattle.job_text.proofs.CapturedAgain.{AllFiles, captures_kept, captures_again, captures_many}
-use Rattle.job_text.proofs.ClocksAgain.{offset_read, skew_read}
+use Rattle.job_text.proofs.ClocksAgain.{offset_read, skew_read, interface_read}
 use Rattle.summary_spec.proofs.Depths.{json_again}
 use Rattle.job_text.proofs.KeyAgain.{AllApart, AllOther, key_kept, numbers_again}
 use Rattle.summary_spec.proofs.Lengths.{short_enough}
@@ -90,25 +90,43 @@ module _ (d : Declared) (lawful : IsLawful d) (known : IsSaid d) where
       same [] = refl
       same (s ∷ skews) = ap (λ ss. s ∷ ss) (same skews)
 
+  interfaces_row : (first : Bool) → (d.version == 1) ≡ first → map (interface_read first) d.interfaces ≡ d.interfaces
+  interfaces_row true e = all_none d.interfaces (lawful.early_versions (omega (arith, eqb-true d.version 1 e)))
+    where
+      all_none : (interfaces : List (Option ℕ)) → All (λ own. own ≡ None) interfaces → map (interface_read true) interfaces ≡ interfaces
+      all_none [] all = refl
+      all_none (own ∷ interfaces) all =
+          ap (λ (o : Option ℕ). o ∷ map (interface_read true) interfaces) (sym (All-head (λ (own : Option ℕ). own ≡ None) own interfaces all))
+          ∙ ap (λ (os : List (Option ℕ)). own ∷ os) (all_none interfaces (All-tail (λ (own : Option ℕ). own ≡ None) own interfaces all))
+  interfaces_row false e = same d.interfaces
+    where
+      same : (interfaces : List (Option ℕ)) → map (interface_read false) interfaces ≡ interfaces
+      same [] = refl
+      same (own ∷ interfaces) = ap (λ (os : List (Option ℕ)). own ∷ os) (same interfaces)
+
+  unnamed : (d.version == 2) ≡ true → All (λ own. own ≡ None) d.interfaces
+  unnamed second = lawful.early_versions (omega (arith, eqb-true d.version 2 second))
+
   abbrev captured : Captured
   captured = record {
     names = d.captures;
     files = d.files;
     offsets = map (offset_read (d.version == 1)) d.offsets;
     own_skews = map (skew_read (d.version == 1)) d.skews;
+    interfaces = map (interface_read (d.version == 1)) d.interfaces;
   }
 
   captures_row : captures d.version (canonical_data d) ≡ Ok captured
   captures_row =
-      rw (captures_many d.version d.captures d.files d.offsets d.skews lawful.files lawful.offsets lawful.skews, counted 1 64 (length d.captures) lawful.captures.0 lawful.captures.1)
-      (captures_again d.version no_captures d.captures d.files d.offsets d.skews known.captures known.files lawful.offset_limits lawful.skew_limits lawful.files lawful.offsets lawful.skews)
+      rw (captures_many d.version d.captures d.files d.offsets d.skews d.interfaces lawful.files lawful.offsets lawful.skews lawful.interfaces, counted 1 64 (length d.captures) lawful.captures.0 lawful.captures.1)
+      (captures_again d.version no_captures d.captures d.files d.offsets d.skews d.interfaces known.captures known.files lawful.offset_limits lawful.skew_limits lawful.interface_limits unnamed lawful.files lawful.offsets lawful.skews lawful.interfaces)
 
   version_row : version (canonical_data d) ≡ Ok d.version
   version_row = rw (counted 1 newest_version d.version lawful.version.0 lawful.version.1) refl
 
-  -- the job with what is read of its offsets and its skews
-  clocks_row : ◌≡◌ {A = Said Declared} (Ok (record d { offsets = captured.offsets; skews = skews_or d.skew captured.own_skews })) (Ok d)
-  clocks_row = rw (offsets_row (d.version == 1) refl, skews_row (d.version == 1) refl) refl
+  -- the job with what is read of its offsets, its skews and its interfaces
+  clocks_row : ◌≡◌ {A = Said Declared} (Ok (record d { offsets = captured.offsets; skews = skews_or d.skew captured.own_skews; interfaces = captured.interfaces })) (Ok d)
+  clocks_row = rw (offsets_row (d.version == 1) refl, skews_row (d.version == 1) refl, interfaces_row (d.version == 1) refl) refl
 
   takes_all : (takes : List (List FieldRef)) → All (Counts 1 4) takes → AllTakes takes
   takes_all [] all = tt

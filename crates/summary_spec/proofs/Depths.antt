@@ -13,7 +13,7 @@ use Rattle.summary_spec.specs.Reads.{json}
 
 low : (d : Declared) → depth (canonical_data d) ≤ 6
 low d =
-    up _ 5 (max-le (up _ 4 (more (captures d.version d.captures d.files d.offsets d.skews)))
+    up _ 5 (max-le (up _ 4 (more (captures d.version d.captures d.files d.offsets d.skews d.interfaces)))
     (max-le (none 5)
     (max-le (up _ 4 (listed 4 (named d.vars) (λ _. none 4) d.key))
     (max-le (none 5)

@@ -9,7 +9,7 @@ use Rattle.summary_spec.specs.Declaration.{Declared}
 
 pub no_float : (d : Declared) → has_float (canonical_data d) ≡ false
 no_float d =
-    neither _ _ (captures d.version d.captures d.files d.offsets d.skews)
+    neither _ _ (captures d.version d.captures d.files d.offsets d.skews d.interfaces)
     (neither _ _ (listed (named d.vars) (λ _. refl) d.key)
     (neither _ _ (question d.vars d.captures d.query)
     (neither _ _ (paired var_value var d.vars d.takes) refl)))

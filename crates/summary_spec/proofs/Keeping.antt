@@ -1,6 +1,7 @@
 -- What the parts of a job keep is what the job keeps.
-use Rattle.std.proofs.Common.{◌≡◌, ℕ, ◌<◌, ◌≤◌, ◌^◌, List, [], ◌∷◌, length, sym, ap, ◌∙◌, subst, All}
+use Rattle.std.proofs.Common.{◌≡◌, ℕ, ◌<◌, ◌≤◌, ◌^◌, List, [], ◌∷◌, length, sym, ap, ◌∙◌, subst, arith, ⊎_elim, All}
 use Rattle.std.specs.Prelude.{pos, unsigned_abs, Option, Some, None, IfSome, unwrap_or, Ok}
+use Rattle.std.proofs.lemmas.Bool.{cases_lt}
 use Rattle.std.proofs.lemmas.List.{length-map}
 use Rattle.std.proofs.lemmas.List.Elements.{All-map, All-nil, All-cons, All-head, All-tail}
 use Rattle.ds_base.specs.Items.{Items}
@@ -10,7 +11,7 @@ use Rattle.query_lang.specs.declared.names.Scope.TheVariants.{One}
 use Rattle.serde_json.specs.Data.{Data}
 use Rattle.job_values.specs.Parsed.{shown}
 use Rattle.job_table.specs.Question.{items_of, question_of}
-use Rattle.job_table.specs.Limits.{newest_version, longest, Counts, IsParsed, IsQuestion}
+use Rattle.job_table.specs.Limits.{newest_version, longest, last_interface, Counts, IsParsed, IsQuestion}
 use Rattle.job_table.specs.Table.{Captured, captures, skews_or}
 use Rattle.job_text.proofs.CapturedAgain.{captures_kept}
 use Rattle.summary_spec.specs.Declaration.{Parts, declared}
@@ -30,6 +31,9 @@ pub record InLimits (p : Parts) : Type 0 where
   pub skews : length p.skews.items ≡ length p.names.captures.items
   pub skew_limits : All (λ skew. skew ≤ longest) p.skews.items
   pub first_version : p.version ≡ 1 → IsUnclocked (declared p)
+  pub interfaces : length p.interfaces.items ≡ length p.names.captures.items
+  pub interface_limits : All (λ own. IfSome own (λ n. n ≤ last_interface)) p.interfaces.items
+  pub early_versions : p.version < 3 → All (λ own. own ≡ None) p.interfaces.items
   pub vars : Counts 1 16 p.names.vars.items
   pub takes : length p.takes.items ≡ length p.names.vars.items
   pub alternatives : All (λ take. Counts 1 4 take.items) p.takes.items
@@ -51,6 +55,9 @@ lawful p in_limits = record {
   skews = in_limits.skews ∙ sym (many p.names.captures.items);
   skew_limits = in_limits.skew_limits;
   first_version = in_limits.first_version;
+  interfaces = in_limits.interfaces ∙ sym (many p.names.captures.items);
+  interface_limits = in_limits.interface_limits;
+  early_versions = in_limits.early_versions;
   vars = rw (many p.names.vars.items) in_limits.vars;
   takes = many p.takes.items ∙ in_limits.takes ∙ sym (many p.names.vars.items);
   alternatives = All-map (λ (fields : List FieldRef). Counts 1 4 fields) (λ (take : Items FieldRef). take.items) p.takes.items in_limits.alternatives;
@@ -95,3 +102,11 @@ unclocked p d c read offsets skews first =
       offsets = subst (λ os. All (λ offset. offset ≡ pos 0) os) (sym offsets) none.0;
       skews = subst (λ ss. All (λ skew. skew ≡ p.skew) ss) (sym skews) (skews_same p.skew c.own_skews none.1);
     }
+
+-- captures that were read in version 1 or 2 have no interface
+pub unnamed : (p : Parts) (d : Data) (c : Captured) → captures p.version d ≡ Ok c → p.interfaces.items ≡ c.interfaces → 1 ≤ p.version
+    → p.version < 3 → All (λ own. own ≡ None) p.interfaces.items
+unnamed p d c read same old early =
+    let kept = captures_kept p.version d c read in
+    subst (λ is. All (λ own. own ≡ None) is) (sym same)
+    (⊎_elim (λ (one : p.version < 2). kept.3 (omega (arith, old, one))) (λ (two : 2 ≤ p.version). kept.4 (omega (arith, two, early))) (cases_lt p.version 2))

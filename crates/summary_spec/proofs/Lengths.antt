@@ -28,9 +28,9 @@ pub short_enough : (d : Declared) → IsLawful d → AllNew is_identifier [] d.c
 short_enough d lawful points files names =
     let vars = names_short is_free free_short [] d.vars names in
     let captures = names_short is_identifier identifier_short [] d.captures points in
-    enough (object_short 646299
-    (one_more (codes "captures") (array (items_of (capture_values d.version d.captures d.files d.offsets d.skews))) 8 120770 525477 (omega arith)
-    (omega (arith, captures_short false d.version [] d.captures d.files d.offsets d.skews points files lawful.offset_limits lawful.skew_limits, lawful.captures.1))
+    enough (object_short 650331
+    (one_more (codes "captures") (array (items_of (capture_values d.version d.captures d.files d.offsets d.skews d.interfaces))) 8 124802 525477 (omega arith)
+    (omega (arith, captures_short false d.version [] d.captures d.files d.offsets d.skews d.interfaces points files lawful.offset_limits lawful.skew_limits lawful.interface_limits, lawful.captures.1))
     (one_more (codes "filter") (string d.filter_text) 6 6146 519291 (omega arith) (string_short d.filter_text 1024 lawful.filter.short)
     (one_more (codes "key") (array (items_of (map (named d.vars) d.key))) 3 3122 516147 (omega arith)
     (list_short (named d.vars) (λ _. Unit {0}) 194 16 (λ n _. named_short d.vars n vars) d.key (any d.key) lawful.key.1)
@@ -44,5 +44,5 @@ short_enough d lawful points files names =
     (one_more (codes "vxlan_port") (number (unsigned d.port)) 10 20 61 (omega arith) (number_short d.port (omega (arith, lawful.port.1)))
     (one_more (codes "window") (number (unsigned d.window)) 6 20 1 (omega arith) (number_short d.window (omega (arith, lawful.window))) ended)))))))))))
   where
-    enough : {n : ℕ} → n ≤ 646300 → n ≤ most_bytes
+    enough : {n : ℕ} → n ≤ 650332 → n ≤ most_bytes
     enough h = omega (arith, h)

@@ -10,7 +10,7 @@ use Rattle.summary_spec.specs.Declaration.{Declared}
 -- a job as a value of JSON
 abbrev pub canonical_data : Declared → Data
 canonical_data d = object (
-    member (codes "captures") (array (items_of (capture_values d.version d.captures d.files d.offsets d.skews))) (
+    member (codes "captures") (array (items_of (capture_values d.version d.captures d.files d.offsets d.skews d.interfaces))) (
     member (codes "filter") (string d.filter_text) (
     member (codes "key") (list_of (named d.vars) d.key) (
     member (codes "profile") (boolean d.profile) (

@@ -1,5 +1,5 @@
 -- The job of the command `count`.
-use Rattle.std.specs.Prelude.{ℕ, pos, List, [], ◌∷◌, false, codes}
+use Rattle.std.specs.Prelude.{ℕ, pos, List, [], ◌∷◌, None, false, codes}
 use Rattle.ds_base.specs.Times.{hour}
 use Rattle.field_table.specs.declared.field_ref.FieldRef.{FieldRef}
 use Rattle.query_lang.specs.Expression.{Literal}
@@ -18,6 +18,7 @@ count_job field window file = record {
   files = file ∷ [];
   offsets = pos 0 ∷ [];
   skews = hour ∷ [];
+  interfaces = None ∷ [];
   takes = (field ∷ []) ∷ [];
   filter_text = codes "1";
   filter = Literal 1;

@@ -1,5 +1,5 @@
 -- What a job declares, without where it lies in memory.
-use Rattle.std.specs.Prelude.{ℕ, ℤ, Bool, List}
+use Rattle.std.specs.Prelude.{ℕ, ℤ, Bool, List, Option}
 use Rattle.ds_base.specs.Items.{Items}
 use Rattle.field_table.specs.declared.field_ref.FieldRef.{FieldRef}
 use Rattle.query_lang.specs.Expression.{Expression, expression_of}
@@ -17,6 +17,7 @@ pub record Declared : Type 0 where
   pub files : List (List ℕ)
   pub offsets : List ℤ
   pub skews : List ℕ
+  pub interfaces : List (Option ℕ)
   pub takes : List (List FieldRef)
   pub filter_text : List ℕ
   pub filter : Expression
@@ -34,6 +35,7 @@ pub record Parts : Type 0 where
   pub files : Items (Items ℕ)
   pub offsets : Items ℤ
   pub skews : Items ℕ
+  pub interfaces : Items (Option ℕ)
   pub takes : Items (Items FieldRef)
   pub filter_text : Items ℕ
   pub filter : Expr
@@ -53,6 +55,7 @@ declared parts = record {
   files = items_of parts.files.items;
   offsets = parts.offsets.items;
   skews = parts.skews.items;
+  interfaces = parts.interfaces.items;
   takes = items_of parts.takes.items;
   filter_text = parts.filter_text.items;
   filter = expression_of parts.filter;

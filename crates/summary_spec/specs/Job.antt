@@ -11,6 +11,7 @@ parts_of job = record {
   files = job.files;
   offsets = job.offsets;
   skews = job.skews;
+  interfaces = job.interfaces;
   takes = job.takes;
   filter_text = job.filter_text;
   filter = job.filter;

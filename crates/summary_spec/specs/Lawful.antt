@@ -1,8 +1,8 @@
 -- What every job keeps.
-use Rattle.std.specs.Prelude.{◌≡◌, ◌<◌, ◌≤◌, ◌^◌, pos, unsigned_abs, length, All}
+use Rattle.std.specs.Prelude.{◌≡◌, ◌<◌, ◌≤◌, ◌^◌, pos, unsigned_abs, None, IfSome, length, All}
 use Rattle.query_lang.specs.declared.names.Scope.TheVariants.{One}
 use Rattle.job_table.specs.Limits.{IsParsed, IsQuestion}
-pub use Rattle.job_table.specs.Limits.{newest_version, longest, Counts}
+pub use Rattle.job_table.specs.Limits.{newest_version, longest, last_interface, Counts}
 use Rattle.summary_spec.specs.Declaration.{Declared}
 
 -- no capture has an offset, and each has the job's skew
@@ -20,6 +20,9 @@ pub record IsLawful (d : Declared) : Type 0 where
   pub skews : length d.skews ≡ length d.captures
   pub skew_limits : All (λ skew. skew ≤ longest) d.skews
   pub first_version : d.version ≡ 1 → IsUnclocked d
+  pub interfaces : length d.interfaces ≡ length d.captures
+  pub interface_limits : All (λ own. IfSome own (λ n. n ≤ last_interface)) d.interfaces
+  pub early_versions : d.version < 3 → All (λ own. own ≡ None) d.interfaces
   pub vars : Counts 1 16 d.vars
   pub takes : length d.takes ≡ length d.vars
   pub alternatives : All (Counts 1 4) d.takes

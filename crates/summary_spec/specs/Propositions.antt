@@ -103,4 +103,4 @@ question_prop vars captures (Rewrites from to rules) = Prim.hlevel (le_prop, man
 question_prop vars captures (Tests text e) = Prim.hlevel (le_prop, gives_prop, terms_prop, variable_prop, scope_prop)
 
 pub Lawful-prop : (d : Declared) → IsProp (IsLawful d)
-Lawful-prop d = Prim.hlevel (ℕ_set, ℤ_set, le_prop, gives_prop, terms_prop, variable_prop, scope_prop, question_prop)
+Lawful-prop d = Prim.hlevel (props, ℕ_set, ℤ_set, le_prop, gives_prop, terms_prop, variable_prop, scope_prop, question_prop)

@@ -48,6 +48,7 @@ declaration d = do
     files = captured.files;
     offsets = captured.offsets;
     skews = skews_or skew captured.own_skews;
+    interfaces = captured.interfaces;
     takes = varied.1;
     filter_text = filtered.0;
     filter = filtered.1;

@@ -8,7 +8,7 @@ ghost use Rattle.job_table.specs.Limits.{longest};
 use crate::job::Job;
 use ds_base::{HOUR, ItemList, KeyList, NameList, OutOfMemory};
 use field_table::FieldRef;
-use job_table::{FieldList, OffsetList, Query, SkewList, TakeList, copied, put};
+use job_table::{FieldList, InterfaceList, OffsetList, Query, SkewList, TakeList, copied, put};
 use query_lang::{Expr, Names};
 use std::alloc::Global;
 
@@ -31,6 +31,7 @@ impl Job {
         let files: NameList = only(alloc, copied(alloc, file)?)?;
         let offsets: OffsetList = only(alloc, 0)?;
         let skews: SkewList = only(alloc, HOUR)?;
+        let interfaces: InterfaceList = only(alloc, None)?;
         let take: FieldList = only(alloc, field)?;
         let takes: TakeList = only(alloc, take)?;
         let key: KeyList = only(alloc, 0)?;
@@ -42,6 +43,7 @@ impl Job {
             files,
             offsets,
             skews,
+            interfaces,
             takes,
             filter_text,
             filter: Expr::Number(1),

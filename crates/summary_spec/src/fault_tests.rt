@@ -11,7 +11,7 @@ const UP_TO_B: &str =
     r#""version":1,"captures":[{"name":"s1","file":"a"},{"name":"s2","file":"b"}"#;
 
 // A part of the job, what stands in its place, and the fault: the member, the index and what.
-static FAULTS: [(&str, &str, Member, u32, JobWhat); 33] = [
+static FAULTS: [(&str, &str, Member, u32, JobWhat); 36] = [
     (LOOPS, "{", Member::Whole, 0, JobWhat::NotJson),
     (
         r#""skew""#,
@@ -22,10 +22,10 @@ static FAULTS: [(&str, &str, Member, u32, JobWhat); 33] = [
     ),
     (
         r#""version":1,"#,
-        r#""version":3,"#,
+        r#""version":4,"#,
         Member::Version,
         0,
-        JobWhat::Limit { value: 3 },
+        JobWhat::Limit { value: 4 },
     ),
     (
         r#""skew""#,
@@ -93,6 +93,29 @@ static FAULTS: [(&str, &str, Member, u32, JobWhat); 33] = [
         Member::CapturesSkew,
         0,
         JobWhat::WrongKind,
+    ),
+    (
+        UP_TO_B,
+        r#""version":2,"captures":[{"name":"s1","file":"a"},{"name":"s2","file":"b","interface":0}"#,
+        Member::Captures,
+        1,
+        JobWhat::Stray,
+    ),
+    (
+        UP_TO_B,
+        r#""version":3,"captures":[{"name":"s1","file":"a","interface":65535},{"name":"s2","file":"b","interface":65536}"#,
+        Member::CapturesInterface,
+        1,
+        JobWhat::Limit { value: 65_536 },
+    ),
+    (
+        UP_TO_B,
+        r#""version":3,"captures":[{"name":"s1","file":"a","skew":3600000000001,"interface":"eth0"},{"name":"s2","file":"b"}"#,
+        Member::CapturesSkew,
+        0,
+        JobWhat::Limit {
+            value: 3_600_000_000_001,
+        },
     ),
     (
         r#"{"name":"ttl","take":["ipv4[-1].ttl"]}"#,

@@ -5,7 +5,7 @@ ghost use Rattle.summary_spec.specs.Lawful.{IsLawful};
 ghost use Rattle.summary_spec.specs.Propositions.{Lawful-prop};
 
 use ds_base::{KeyList, NameList, Text};
-use job_table::{OffsetList, Query, SkewList, TakeList};
+use job_table::{InterfaceList, OffsetList, Query, SkewList, TakeList};
 use query_lang::{Expr, Names};
 
 /// A job. Whoever holds one knows that it is lawful: its numbers of variables and captures are in
@@ -13,7 +13,7 @@ use query_lang::{Expr, Names};
 /// its names.
 #[derive(Drop)]
 pub struct Job {
-    /// The version of its declaration, 1 or 2.
+    /// The version of its declaration, 1 to 3.
     pub version: u32,
     /// The UDP port of VXLAN.
     pub port: u16,
@@ -26,6 +26,9 @@ pub struct Job {
     /// By how much less than the newest before it the time of a record of each capture may be, in
     /// nanoseconds.
     pub skews: SkewList,
+    /// The interface of its file whose packets are the records of each capture; none: those of all
+    /// interfaces.
+    pub interfaces: InterfaceList,
     /// The alternatives of each variable.
     pub takes: TakeList,
     /// The filter as it was given.
@@ -49,6 +52,7 @@ pub struct Job {
       files = files;
       offsets = offsets;
       skews = skews;
+      interfaces = interfaces;
       takes = takes;
       filter_text = filter_text;
       filter = filter;
@@ -64,6 +68,7 @@ pub struct Job {
       files = files;
       offsets = offsets;
       skews = skews;
+      interfaces = interfaces;
       takes = takes;
       filter_text = filter_text;
       filter = filter;

@@ -11,7 +11,7 @@ mod print;
 mod reading;
 
 pub use job::Job;
-pub use job_table::{FieldList, OffsetList, Query, SkewList, TakeList};
+pub use job_table::{FieldList, InterfaceList, OffsetList, Query, SkewList, TakeList};
 pub use job_values::{JobFault, JobWhat, Member, ReadJobFault};
 pub use law::one_verdict;
 

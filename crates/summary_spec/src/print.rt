@@ -20,8 +20,8 @@ use std::alloc::{AllocError, Global};
 
 impl Job {
     /// The canonical text of the job: JSON without blanks, the members of each object in byte order,
-    /// with all that are optional: from version 2 on also the offset and the skew of each capture. The
-    /// words of a pattern are joined by one blank, exits stand in rising capture number, and a wide
+    /// with all that are optional: from version 2 on also the offset and the skew of each capture, and its
+    /// interface exactly where it was given. The words of a pattern are joined by one blank, exits stand in rising capture number, and a wide
     /// number from 2^64 on is a text. Filter and expression stand as they were given. The error is
     /// want of memory.
     pub fn print(&self, alloc: Global) -> Result<Text, OutOfMemory>
@@ -56,6 +56,7 @@ fn job_value(alloc: Global, job: &Job) -> Result<Value, AllocError>
         &job.files,
         &job.offsets,
         &job.skews,
+        &job.interfaces,
     )?;
     let key = key_value(alloc, &job.names.vars, &job.key)?;
     let query = question_value(alloc, &job.names, &job.query)?;

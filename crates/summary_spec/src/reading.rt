@@ -81,6 +81,7 @@ fn declaration(alloc: Global, value: &Value) -> Result<Job, ReadJobFault>
         files,
         offsets,
         own_skews,
+        interfaces,
     } = captures(alloc, value, version)?;
     let (vars, takes) = vars(alloc, value)?;
     let names = Names { vars, captures };
@@ -98,6 +99,7 @@ fn declaration(alloc: Global, value: &Value) -> Result<Job, ReadJobFault>
         files,
         offsets,
         skews,
+        interfaces,
         takes,
         filter_text,
         filter,

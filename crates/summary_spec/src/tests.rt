@@ -25,6 +25,13 @@ const CLOCKED: &str =
 const CLOCKED_CANONICAL: &str =
     r#"{"captures":[{"file":"a","name":"s1","offset":0,"skew":0},{"file":"b","name":"s2","offset":-5,"skew":7},{"file":"c","name":"s3","offset":3600000000000,"skew":0}],"filter":"1","key":["id"],"profile":false,"query":{"hop":"ttl","kind":"loop"},"skew":0,"vars":[{"name":"id","take":["ipv4[-1].id"]},{"name":"ttl","take":["ipv4[-1].ttl"]}],"version":2,"vxlan_port":4789,"window":1000000}"#;
 
+// Captures of a job of version 3, and the canonical text of it.
+const NAMED: &str =
+    r#""version":3,"captures":[{"name":"s1","file":"a","interface":0},{"interface":65535,"name":"s2","file":"a","offset":-5},{"name":"s3","file":"c"}]"#;
+
+const NAMED_CANONICAL: &str =
+    r#"{"captures":[{"file":"a","interface":0,"name":"s1","offset":0,"skew":0},{"file":"a","interface":65535,"name":"s2","offset":-5,"skew":0},{"file":"c","name":"s3","offset":0,"skew":0}],"filter":"1","key":["id"],"profile":false,"query":{"hop":"ttl","kind":"loop"},"skew":0,"vars":[{"name":"id","take":["ipv4[-1].id"]},{"name":"ttl","take":["ipv4[-1].ttl"]}],"version":3,"vxlan_port":4789,"window":1000000}"#;
+
 // Its query.
 pub(crate) const HOP: &str = r#"{"kind":"loop","hop":"ttl"}"#;
 
@@ -80,6 +87,12 @@ fn jobs_are_printed_so_that_they_read_back(rt: HostRuntime) -> Result<(), Fail> 
     assert_eq!(rt; text.as_str(), CLOCKED_CANONICAL);
     let again = printed(rt.alloc(), text.as_str())?;
     assert_eq!(rt; again.as_str(), CLOCKED_CANONICAL);
+    // An interface stands in the text exactly where it was given.
+    let named = replaced(rt.alloc(), LOOPS, CAPTURES, NAMED)?;
+    let text = printed(rt.alloc(), named.as_str())?;
+    assert_eq!(rt; text.as_str(), NAMED_CANONICAL);
+    let again = printed(rt.alloc(), text.as_str())?;
+    assert_eq!(rt; again.as_str(), NAMED_CANONICAL);
     for (query, canonical) in &QUERIES {
         let text = replaced(rt.alloc(), LOOPS, HOP, query)?;
         let expected = replaced(

@@ -2,7 +2,7 @@ use Rattle.std.proofs.Common.{◌≡◌, ◌≤◌, length, drop, All}
 use Rattle.std.specs.Prelude.{IfSome, unsigned_abs}
 use Rattle.job_values.specs.Values.{each}
 use Rattle.serde_json.specs.View.{items_view}
-use Rattle.job_table.specs.Limits.{longest}
+use Rattle.job_table.specs.Limits.{longest, last_interface}
 use Rattle.job_table.specs.Table.{capture, captured_of, no_captures}
 use Rattle.job_table.proofs.capture_rows.captures.Given as goal
 
@@ -15,3 +15,5 @@ invariant-loop-i l =
     × All (λ offset. unsigned_abs offset ≤ longest) l.lists.offsets.items
     × (length l.lists.own_skews.items ≡ l.i)
     × All (λ own. IfSome own (λ skew. skew ≤ longest)) l.lists.own_skews.items
+    × (length l.lists.interfaces.items ≡ l.i)
+    × All (λ own. IfSome own (λ n. n ≤ last_interface)) l.lists.interfaces.items

@@ -3,7 +3,7 @@ use Rattle.serde_json.specs.View.{view}
 use Rattle.job_table.specs.Limits.{longest}
 use Rattle.job_table.specs.Table.{captured_of}
 use Rattle.summary_spec.specs.Declaration.{Parts}
-use Rattle.summary_spec.proofs.Keeping.{lawful, skews_many, skews_most, unclocked}
+use Rattle.summary_spec.proofs.Keeping.{lawful, skews_many, skews_most, unclocked, unnamed}
 use Rattle.summary_spec.proofs.reading.declaration.Goals as goal
 
 pub invariant_of-result : goal.invariant_of-result
@@ -18,6 +18,7 @@ invariant_of-result c =
       files = lists.files;
       offsets = lists.offsets;
       skews = c.in_ok-skews.skews;
+      interfaces = lists.interfaces;
       takes = c.in_ok-vars.takes;
       filter_text = c.in_ok-filter_text.filter_text;
       filter = c.in_ok-filter_text.filter;
@@ -38,6 +39,9 @@ invariant_of-result c =
         skews = rw filled (skews_many skew lists.own_skews.items ∙ c.in_ok-captures.ensures.own_skews);
         skew_limits = subst (λ ns. All (λ n. n ≤ longest) ns) (sym filled) (skews_most skew lists.own_skews.items c.in_ok-skew.ensures.most c.in_ok-captures.ensures.skew_limits);
         first_version = unclocked parts (view c.args.value.now) (captured_of lists) c.in_ok-captures.ensures.answer refl filled;
+        interfaces = c.in_ok-captures.ensures.interfaces;
+        interface_limits = c.in_ok-captures.ensures.interface_limits;
+        early_versions = unnamed parts (view c.args.value.now) (captured_of lists) c.in_ok-captures.ensures.answer refl c.in_ok-version.ensures.limits.0;
         vars = c.in_ok-vars.ensures.counts;
         takes = c.in_ok-vars.ensures.takes;
         alternatives = c.in_ok-vars.ensures.alternatives;
