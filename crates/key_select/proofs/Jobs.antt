@@ -17,7 +17,7 @@ known_key job vals e = subst (λ (n : ℕ). All (λ v. v < n) job.key.items) (sy
 pub known_filter : (job : Job) (vals : List ℕ) → length vals ≡ length job.takes.items → VariablesBelow (length vals) (expression_of job.filter)
 known_filter job vals e = subst (λ (n : ℕ). VariablesBelow n (expression_of job.filter)) (sym (e ∙ takes_count job)) job.lawful.filter.variables
 
--- ---- one offset and one skew for each capture
+-- ---- one offset, one skew and one interface for each capture
 
 captures_count : (job : Job) → length (declared_of job).captures ≡ length job.names.captures.items
 captures_count job = length-map job.names.captures.items (λ list. list.items)
@@ -27,6 +27,9 @@ offset_there job capture less = rw (job.lawful.offsets ∙ captures_count job) l
 
 pub skew_there : (job : Job) (capture : ℕ) → capture < length job.names.captures.items → capture < length job.skews.items
 skew_there job capture less = rw (job.lawful.skews ∙ captures_count job) less
+
+pub interface_there : (job : Job) (capture : ℕ) → capture < length job.names.captures.items → capture < length job.interfaces.items
+interface_there job capture less = rw (job.lawful.interfaces ∙ captures_count job) less
 
 pub offset_near : (job : Job) (capture : ℕ) → capture < length job.names.captures.items → unsigned_abs (get_or job.offsets.items capture (pos 0)) ≤ hour
 offset_near job capture less = job.lawful.offset_limits capture (pos 0) (offset_there job capture less)

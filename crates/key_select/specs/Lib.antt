@@ -1,4 +1,5 @@
 pub mod Times
+pub mod Wanted
 pub mod Sum
 pub mod Late
 pub mod Fates
