@@ -1,5 +1,5 @@
 -- What one call of a pipe's end means for a link.
-use Rattle.std.proofs.Common.{◌≡◌, ap₂, Option, Some, None, Result, Ok, Err, slice_index, ◌<◌, ◌≤◌, ℕ, zero, suc, ◌+◌, ◌-◌, ◌^◌, min, inr, IsTrue, List, [], ◌∷◌, ◌++◌, length, take, drop, replicate, refl, sym, ap, ◌∙◌, subst, arith, append-nil, length-append}
+use Rattle.std.proofs.Common.{◌≡◌, ap₂, Option, Some, None, Result, Ok, Err, slice_index, ◌<◌, ◌≤◌, ℕ, zero, suc, ◌+◌, ◌-◌, ◌^◌, min, inl, inr, IsTrue, List, [], ◌∷◌, ◌++◌, length, take, drop, replicate, refl, sym, ap, ◌∙◌, subst, arith, append-nil, length-append}
 use Rattle.std.proofs.lemmas.List.{length-take, length-drop, length-replicate, take-replicate, take-append-drop, replicate-append-replicate}
 use Rattle.std.proofs.Math.Seq.{drop-cons}
 use Rattle.ds_base.specs.Faults.{Rose}
@@ -12,9 +12,7 @@ use Rattle.credit_link.specs.Frames.{capped, IsCounted}
 use Rattle.credit_link.specs.declared.link_bad.LinkBad.{LinkBad}
 use Rattle.credit_link.specs.Sending.{SenderSeen, SenderStands, CreditsTaken, NoCredit}
 use Rattle.credit_link.specs.Receiving.{ReceiverSeen, ReceiverStands, GivesFrame, Fills, Pays, Fails}
-use Rattle.credit_link.specs.declared.link_bad.PullFault.{PullFault}
-use Rattle.credit_link.specs.declared.link_bad.PullFault.TheVariants as Pull
-use Rattle.credit_link.specs.Pulling.{Answers, PullAnswers}
+use Rattle.credit_link.specs.Pulling.{PullAnswers}
 use Rattle.credit_link.specs.Ends.{TxSeen, tx_of, rx_of, OnPipes, InPipes}
 use Rattle.credit_link.specs.Moves.{EndMoves, IsHeard}
 use Rattle.credit_link.specs.Pumping.{PutsOut, TakesBack, FailsBack, TxPumps, RxPumps}
@@ -64,15 +62,6 @@ puts_out s after forth forth' back name name' back_name cut n piece heard named 
       moves = asked_moves forth forth' piece n ((0 < cut) × (0 < length s.left)) heard moves some (omega arith, omega arith);
     }))
 
-pub puts_nothing : (l : TxSeen) (cut : ℕ) → length (take cut l.left) ≡ 0 → PutsOut l l cut 0
-puts_nothing l cut none = record {
-  same = refl;
-  within = omega arith;
-  most = omega arith;
-  bytes = λ _. sym (append-nil l.forth.bytes);
-  moves = left_alone l.forth ((0 < cut) × (0 < length l.left)) (λ asked. omega (arith, length-take cut l.left, none, asked.0, asked.1));
-}
-
 -- ---- credits
 
 still_heard : (before after : PipeSeen) (front : List ℕ) (n : ℕ) → IsHeard before → PipeMoves before after front n → IsHeard after
@@ -99,17 +88,6 @@ credits_on_pipes s after forth back back' most n coins stands pipes taken moves 
           let sum : s.held + s.repaid ≡ length s.offered = stands.counts counted in
           let exact : s.repaid + length (take n coins) ≡ capped (s.repaid + length (take n coins)) = omega (arith, sum, taken.within, counted) in
           moves.bytes (subst IsTrue moves.told told) ∙ ap₂ (λ (xs ys : List ℕ). xs ++ ys) before (front.2 ∙ more) ∙ replicate-append-replicate s.repaid (length (take n coins)) 1 ∙ ap (λ k. replicate k 1) exact;
-    })
-
-pub no_credit_on_pipes : (s after : SenderSeen) (forth back back' : PipeSeen) (most n : ℕ) (coins : List ℕ) (bad : LinkBad) → OnPipes s forth back → NoCredit s after (take n coins) bad
-    → PipeMoves back back' (take most coins) n → OnPipes after forth back'
-no_credit_on_pipes s after forth back back' most n coins bad pipes none_there moves =
-    let P : SenderSeen → Type 0 = λ a. OnPipes a forth back' in
-    subst P (sym none_there.same) (record {
-      put = pipes.put;
-      forth_heard = pipes.forth_heard;
-      back_heard = still_heard back back' (take most coins) n pipes.back_heard moves;
-      repaid = λ _ _ fault. absurd (let e : Some bad ≡ None = fault in cc);
     })
 
 pub takes_no_credit : (s after : SenderSeen) (forth back back' : PipeSeen) (name back_name back_name' : PipeName) (most n : ℕ) (coins : List ℕ) (bad : LinkBad) → back_name' ≡ back_name
@@ -238,20 +216,12 @@ pulled_pipes s after frame forth back pipes gives =
       paid = λ counted told. pipes.paid (fewer counted) told;
     })
 
-pub answered_pipes : (s after : ReceiverSeen) (forth back : PipeSeen) (answer : Result (Option Frame) PullFault) → InPipes s forth back → Answers s after answer → InPipes after forth back
+pub answered_pipes : (s after : ReceiverSeen) (forth back : PipeSeen) (answer : Result (Option Frame) LinkBad) → InPipes s forth back → PullAnswers s after answer → InPipes after forth back
 answered_pipes s after forth back (Ok (Some frame)) pipes gives = pulled_pipes s after frame forth back pipes gives
 answered_pipes s after forth back (Ok None) pipes none_there = subst (λ (a : ReceiverSeen). InPipes a forth back) (sym none_there.1) pipes
-answered_pipes s after forth back (Err (Pull.Bad bad)) pipes meets =
+answered_pipes s after forth back (Err bad) pipes (inl kept) = subst (λ (a : ReceiverSeen). InPipes a forth back) (sym kept.1) pipes
+answered_pipes s after forth back (Err bad) pipes (inr meets) =
     subst (λ (a : ReceiverSeen). InPipes a forth back) (sym meets.1) (record { reads = pipes.reads; forth_heard = pipes.forth_heard; back_heard = pipes.back_heard; paid = pipes.paid })
-answered_pipes s after forth back (Err Pull.OutOfMemory) pipes same =
-    subst (λ (a : ReceiverSeen). InPipes a forth back) (sym same) (record { reads = pipes.reads; forth_heard = pipes.forth_heard; back_heard = pipes.back_heard; paid = pipes.paid })
-
-pub rx_answers : (s after : ReceiverSeen) (forth back : PipeSeen) (name back_name : PipeName) (answer : Result (Option Frame) PullFault) → Answers s after answer
-    → PullAnswers (rx_of s forth back name back_name) (rx_of after forth back name back_name) answer
-rx_answers s after forth back name back_name (Ok (Some frame)) gives = record { opens = gives.opens; once = gives.once; same = ap (λ (a : ReceiverSeen). rx_of a forth back name back_name) gives.same }
-rx_answers s after forth back name back_name (Ok None) none_there = (none_there.0, ap (λ (a : ReceiverSeen). rx_of a forth back name back_name) none_there.1)
-rx_answers s after forth back name back_name (Err (Pull.Bad bad)) meets = inr (meets.0, ap (λ (a : ReceiverSeen). rx_of a forth back name back_name) meets.1)
-rx_answers s after forth back name back_name (Err Pull.OutOfMemory) same = ap (λ (a : ReceiverSeen). rx_of a forth back name back_name) same
 
 pub failed_pipes : (s after : ReceiverSeen) (forth back back' : PipeSeen) (bad : LinkBad) → InPipes s forth back → Fails s after back back' bad → IsHeard back' → InPipes after forth back'
 failed_pipes s after forth back back' bad pipes fails heard =

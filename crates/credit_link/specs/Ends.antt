@@ -90,7 +90,6 @@ pub record RxSeen : Type 0 where
   pub last : ℕ
   pub finished : Bool
   pub fault : Option LinkBad
-  pub starved : Bool
   pub forth : PipeSeen
   pub back : PipeSeen
   pub forth_name : PipeName
@@ -107,7 +106,6 @@ rx_of s forth back forth_name back_name = record {
   last = s.last;
   finished = s.finished;
   fault = s.fault;
-  starved = s.starved;
   forth = forth;
   back = back;
   forth_name = forth_name;
@@ -125,7 +123,6 @@ receiver_of l = record {
   last = l.last;
   finished = l.finished;
   fault = l.fault;
-  starved = l.starved;
 }
 
 -- the receiver and its pipes: the frames given are the first that the bytes received spell, and each credit

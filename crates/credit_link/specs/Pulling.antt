@@ -1,5 +1,5 @@
 -- What a pull answers.
-use Rattle.std.specs.Prelude.{ℕ, ◌≡◌, ◌≢◌, ◌+◌, ◌⊎◌, ◌||◌, Bool, true, false, IsTrue, List, [], ◌∷◌, ◌++◌, length, Option, Some, None, Result, Ok, Err}
+use Rattle.std.specs.Prelude.{ℕ, ◌≡◌, ◌≢◌, ◌⊎◌, Bool, false, IsTrue, List, length, Option, Some, None, Result, Ok, Err}
 use Rattle.sha2.specs.Sha256.{sha256}
 use Rattle.node_frames.specs.declared.frame.Frame.{Frame}
 use Rattle.node_frames.specs.declared.wire.Wire.{Wire}
@@ -8,13 +8,9 @@ use Rattle.node_frames.specs.declared.wire.Seal.{Seal}
 use Rattle.node_frames.specs.Table.{Spells}
 use Rattle.credit_link.specs.declared.link_bad.LinkBad.{LinkBad}
 use Rattle.credit_link.specs.declared.link_bad.LinkBad.TheVariants as Bad
-use Rattle.credit_link.specs.declared.link_bad.PullFault.{PullFault}
-use Rattle.credit_link.specs.declared.link_bad.PullFault.TheVariants as Pull
-use Rattle.node_frames.specs.Link.{Opens}
-use Rattle.credit_link.specs.Frames.{capped, IsCounted, bytes_of_all, wire_behind, is_finish}
+use Rattle.credit_link.specs.Frames.{capped, IsCounted, bytes_of_all}
 use Rattle.credit_link.specs.Ahead.{IsPart, IsUnlawful, HasWhole, payload_ahead}
 use Rattle.credit_link.specs.Receiving.{ReceiverSeen, GivesFrame}
-use Rattle.credit_link.specs.Ends.{RxSeen}
 
 -- the end of the link stands there again
 abbrev pub RepeatsEnd : (finished : Bool) → Wire → Type 0
@@ -40,24 +36,10 @@ MeetsBad given finished box bad =
     ((len : ℕ) × (bad ≡ Bad.Frame (capped (length (bytes_of_all given))) len) × IsFrameBad finished box len)
     ⊎ ((told : Seal) × (found : Seal) × (bad ≡ Bad.Seal (capped (length (bytes_of_all given))) told found) × IsSealBad given finished box told found)
 
--- what a pull of a receiver without an earlier fault answers
-abbrev pub Answers : (before after : ReceiverSeen) → Result (Option Frame) PullFault → Type 0
-Answers before after (Ok (Some frame)) = GivesFrame before after frame
-Answers before after (Ok None) = IsPart before.box × (after ≡ before)
-Answers before after (Err (Pull.Bad bad)) = MeetsBad before.given before.finished before.box bad × (after ≡ record before { fault = Some bad })
-Answers before after (Err Pull.OutOfMemory) = after ≡ record before { starved = true }
-
--- the next frame was pulled from a link's end
-pub record Pulls (before after : RxSeen) (frame : Frame) : Type 0 where
-  pub opens : Opens (wire_behind before.given frame) before.box after.box
-  pub once : IsTrue (is_finish frame) → before.finished ≡ false
-  pub same : after ≡ record before { given = before.given ++ frame ∷ []; box = after.box; ungranted = capped (before.ungranted + 1); last = capped (length (bytes_of_all before.given)); finished = before.finished || is_finish frame }
-
--- what a pull of a link's end answers: the next frame; nothing, where no further whole frame and no fault stands
--- next; the first fault, which it kept or which stands next; or want of memory
-abbrev pub PullAnswers : (before after : RxSeen) → Result (Option Frame) PullFault → Type 0
-PullAnswers before after (Ok (Some frame)) = Pulls before after frame
+-- what a pull answers: the next frame; nothing, where no further whole frame and no fault stands next; or the
+-- first fault, which was kept or which stands next
+abbrev pub PullAnswers : (before after : ReceiverSeen) → Result (Option Frame) LinkBad → Type 0
+PullAnswers before after (Ok (Some frame)) = GivesFrame before after frame
 PullAnswers before after (Ok None) = IsPart before.box × (after ≡ before)
-PullAnswers before after (Err (Pull.Bad bad)) =
+PullAnswers before after (Err bad) =
     ((before.fault ≡ Some bad) × (after ≡ before)) ⊎ (MeetsBad before.given before.finished before.box bad × (after ≡ record before { fault = Some bad }))
-PullAnswers before after (Err Pull.OutOfMemory) = after ≡ record before { starved = true }

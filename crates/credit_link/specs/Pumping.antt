@@ -95,6 +95,5 @@ pub record RxKeeps (before after : RxSeen) : Type 0 where
   pub ungranted : after.ungranted ≡ before.ungranted
   pub last : after.last ≡ before.last
   pub finished : after.finished ≡ before.finished
-  pub starved : after.starved ≡ before.starved
   pub names : (after.forth_name ≡ before.forth_name) × (after.back_name ≡ before.back_name)
   pub told : (after.forth.told ≡ before.forth.told) × (after.back.told ≡ before.back.told)

@@ -23,11 +23,10 @@ pub record ReceiverSeen : Type 0 where
   pub last : ℕ
   pub finished : Bool
   pub fault : Option LinkBad
-  pub starved : Bool
 
 abbrev pub new_receiver : (credits : ℕ) → ReceiverSeen
 new_receiver credits =
-    record { credits = credits; given = []; box = []; owed = 0; paid = 0; ungranted = 0; last = 0; finished = false; fault = None; starved = false }
+    record { credits = credits; given = []; box = []; owed = 0; paid = 0; ungranted = 0; last = 0; finished = false; fault = None }
 
 -- what is true of every receiver
 pub record ReceiverStands (s : ReceiverSeen) : Type 0 where

@@ -18,7 +18,7 @@ mod turn;
 pub use byte_rings::{NamedRx, NamedTx, RingRx, RingTx};
 use ds_base::ItemList;
 pub use laws::{each_byte_is_a_credit, frames_are_a_prefix, no_fault_stands_next, owed_are_held};
-pub use link_bad::{LinkBad, PullFault};
+pub use link_bad::LinkBad;
 pub use receiving::LinkRx;
 pub use rings::ring_link;
 pub use row::LinkRow;

@@ -16,12 +16,3 @@ pub enum LinkBad {
     /// The end of the link at offset `at` tells of other frames than came.
     Seal { at: u64, told: Seal, found: Seal },
 }
-
-/// Why a frame could not be pulled.
-#[derive(Clone, Copy, Debug, PartialEq, Eq)]
-pub enum PullFault {
-    /// The link goes no further.
-    Bad(LinkBad),
-    /// There was no memory for the frame.
-    OutOfMemory,
-}

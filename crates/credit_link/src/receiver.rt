@@ -7,11 +7,11 @@ ghost use Rattle.credit_link.specs.Frames.{capped, IsCounted, bytes_of_all, wire
 ghost use Rattle.credit_link.specs.Moves.{IsHeard};
 ghost use Rattle.credit_link.specs.Ahead.{HasWhole, payload_ahead};
 ghost use Rattle.credit_link.specs.Receiving.{new_receiver, ReceiverStands, GivesFrame, Fills, Pays, Fails};
-ghost use Rattle.credit_link.specs.Pulling.{Answers, IsFrameBad};
+ghost use Rattle.credit_link.specs.Pulling.{PullAnswers, IsFrameBad};
 
+use crate::LinkBad;
 use crate::ahead::{Ahead, look_ahead, payload};
 use crate::slices::{are_bytes, between, front};
-use crate::{LinkBad, PullFault};
 use byte_rings::{NamedRx, NamedTx};
 use ds_base::{Failed, OutOfMemory, PipeRx, PipeTx};
 use ghost_list::GhostList;
@@ -43,7 +43,6 @@ pub(crate) struct Receiver {
     digest: Sha256,
     finished: bool,
     fault: Option<LinkBad>,
-    starved: bool,
     given: GhostList<Frame>,
 }
 
@@ -53,15 +52,15 @@ impl Model for Receiver {
 
     ghost Value = { ReceiverSeen };
 
-    ghost view = { λ r. record { credits = r.credits; given = r.given.items; box = drop r.start (take r.end r.bytes.items); owed = r.owed; paid = r.paid; ungranted = r.ungranted; last = r.last; finished = r.finished; fault = r.fault; starved = r.starved } };
+    ghost view = { λ r. record { credits = r.credits; given = r.given.items; box = drop r.start (take r.end r.bytes.items); owed = r.owed; paid = r.paid; ungranted = r.ungranted; last = r.last; finished = r.finished; fault = r.fault } };
 
     ghost use Rattle.credit_link.specs.Receiving.{ReceiverStands, Counters};
 
-    ghost invariant = { λ r. ReceiverStands (record { credits = r.credits; given = r.given.items; box = drop r.start (take r.end r.bytes.items); owed = r.owed; paid = r.paid; ungranted = r.ungranted; last = r.last; finished = r.finished; fault = r.fault; starved = r.starved }) × Counters r.given.items r.bytes.items r.start r.end r.taken r.at r.over r.digest r.finished r.fault };
+    ghost invariant = { λ r. ReceiverStands (record { credits = r.credits; given = r.given.items; box = drop r.start (take r.end r.bytes.items); owed = r.owed; paid = r.paid; ungranted = r.ungranted; last = r.last; finished = r.finished; fault = r.fault }) × Counters r.given.items r.bytes.items r.start r.end r.taken r.at r.over r.digest r.finished r.fault };
 }
 
 impl Receiver {
-    /// A receiver that was given nothing. It takes all memory that it ever needs, except what a pull does.
+    /// A receiver that was given nothing. It takes all memory that it ever needs.
     pub(crate) fn new(alloc: Global, credits: u32) -> Result<Self, OutOfMemory>
         requires { 0 < credits }
         ensures { IfOk result (λ s. (s ≡ new_receiver credits) × ReceiverStands s) }
@@ -84,7 +83,6 @@ impl Receiver {
             digest: Sha256::new(),
             finished: false,
             fault: None,
-            starved: false,
             given: GhostList::new(),
         })
     }
@@ -95,14 +93,6 @@ impl Receiver {
         ensures stands { ReceiverStands self.now }
     {
         self.fault
-    }
-
-    /// Whether a pull found no memory.
-    pub(crate) fn starved(&self) -> bool
-        ensures starved { result ≡ self.now.starved }
-        ensures stands { ReceiverStands self.now }
-    {
-        self.starved
     }
 
     /// How many credits were granted that have not gone out.
@@ -211,11 +201,10 @@ impl Receiver {
         }
     }
 
-    /// The next frame of the bytes received, or why there is none.
-    pub(crate) fn pull(&mut self) -> Result<Option<Frame>, PullFault>
-        requires fault { self.old.fault ≡ None }
-        requires fed { self.old.starved ≡ false }
-        ensures answers { Answers self.old self.new result }
+    /// The next frame of the bytes received, or why there is none. The frame is cut and read where it lies.
+    pub(crate) fn pull(&mut self) -> Result<Option<Frame>, LinkBad>
+        requires { self.old.fault ≡ None }
+        ensures answers { PullAnswers self.old self.new result }
         ensures stands { ReceiverStands self.new }
     {
         match look_ahead(self.received()) {
@@ -226,23 +215,21 @@ impl Receiver {
     }
 
     /// The length word, or the payload behind it, may not stand there.
-    fn refuse(&mut self, len: u32) -> PullFault
-        requires fault { self.old.fault ≡ None }
-        requires bad { IsFrameBad self.old.finished self.old.box len }
-        ensures answers { Answers self.old self.new (Err result) }
+    fn refuse(&mut self, len: u32) -> LinkBad
+        requires { IsFrameBad self.old.finished self.old.box len }
+        ensures answers { PullAnswers self.old self.new (Err result) }
         ensures stands { ReceiverStands self.new }
     {
         let bad = LinkBad::Frame { at: self.at, len };
         self.fault = Some(bad);
-        PullFault::Bad(bad)
+        bad
     }
 
     /// The frame that is there, by its payload's length.
-    fn pull_whole(&mut self, len: usize) -> Result<Option<Frame>, PullFault>
+    fn pull_whole(&mut self, len: usize) -> Result<Option<Frame>, LinkBad>
         requires fault { self.old.fault ≡ None }
-        requires fed { self.old.starved ≡ false }
         requires whole { HasWhole self.old.box len }
-        ensures answers { Answers self.old self.new result }
+        ensures answers { PullAnswers self.old self.new result }
         ensures stands { ReceiverStands self.new }
     {
         match decode(payload(self.received(), len)) {
@@ -257,7 +244,6 @@ impl Receiver {
 
     /// Takes a frame that is not the link's end out of the bytes received.
     fn take_up(&mut self, frame: &Frame, len: usize)
-        requires fault { self.old.fault ≡ None }
         requires whole { HasWhole self.old.box len }
         requires spells { Spells (Plain frame.now) (payload_ahead self.old.box len) }
         ensures gives { GivesFrame self.old self.new frame.now }
@@ -276,12 +262,11 @@ impl Receiver {
     }
 
     /// Compares the link's end that is there with what came before it.
-    fn end(&mut self, told: Seal, len: usize) -> Result<Option<Frame>, PullFault>
+    fn end(&mut self, told: Seal, len: usize) -> Result<Option<Frame>, LinkBad>
         requires fault { self.old.fault ≡ None }
-        requires fed { self.old.starved ≡ false }
         requires whole { HasWhole self.old.box len }
         requires spells { Spells (Sealed told) (payload_ahead self.old.box len) }
-        ensures answers { Answers self.old self.new result }
+        ensures answers { PullAnswers self.old self.new result }
         ensures stands { ReceiverStands self.new }
     {
         if self.finished {
@@ -301,7 +286,7 @@ impl Receiver {
                 found,
             };
             self.fault = Some(bad);
-            return Err(PullFault::Bad(bad));
+            return Err(bad);
         }
         self.finished = true;
         self.given = self.given.and(&Frame::Finish);

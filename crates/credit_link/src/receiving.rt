@@ -1,16 +1,15 @@
 //! The receiving end of a link.
 ghost use Rattle.std.specs.Prelude.{◌≡◌, ◌<◌, ◌≤◌, ◌+◌, ◌-◌, ◌^◌, true, false, IsTrue, IfOk, IfErr, MatchResult, [], ◌∷◌, ◌++◌, length, Some, None, Ok, Err};
 ghost use Rattle.credit_link.specs.declared.link_bad.LinkBad.{LinkBad};
-ghost use Rattle.credit_link.specs.declared.link_bad.PullFault.TheVariants as Pull;
 ghost use Rattle.credit_link.specs.Frames.{capped};
 ghost use Rattle.credit_link.specs.Receiving.{new_receiver};
-ghost use Rattle.credit_link.specs.Ends.{rx_of, IsNew, RxStands};
+ghost use Rattle.credit_link.specs.Ends.{rx_of, receiver_of, IsNew, RxStands};
 ghost use Rattle.credit_link.specs.Pumping.{RxPumps, RxFails, RxKeeps};
 ghost use Rattle.credit_link.specs.Pulling.{PullAnswers};
 
+use crate::LinkBad;
 use crate::receiver::Receiver;
 use crate::sending::NoLink;
-use crate::{LinkBad, PullFault};
 use byte_rings::{NamedRx, NamedTx};
 use node_frames::Frame;
 use std::alloc::Global;
@@ -38,7 +37,7 @@ impl<R: NamedRx, T: NamedTx> Model for LinkRx<R, T> {
 
 impl<R: NamedRx, T: NamedTx> LinkRx<R, T> {
     /// A link's receiving end over a data pipe and a credit pipe. It is refused for want of memory alone, and
-    /// takes all memory that it ever needs, except what a pull takes.
+    /// takes all memory that it ever needs.
     pub fn new(alloc: Global, forth: R, back: T, credits: u32) -> Result<Self, NoLink<R, T>>
         requires credits { (1 ≤ credits) × (credits ≤ 1024) }
         requires forth { IsNew (R.seen forth) }
@@ -77,18 +76,16 @@ impl<R: NamedRx, T: NamedTx> LinkRx<R, T> {
     }
 
     /// The next frame of the bytes received. None: they hold no further whole frame, and no fault stands
-    /// next. The first fault of this end is answered again by each later call, and so is want of memory.
-    pub fn pull(&mut self) -> Result<Option<Frame>, PullFault>
-        ensures starved { self.old.starved ≡ true → (result ≡ Err Pull.OutOfMemory) × (self.new ≡ self.old) }
-        ensures again { (bad : LinkBad) → self.old.starved ≡ false → self.old.fault ≡ Some bad → (result ≡ Err (Pull.Bad bad)) × (self.new ≡ self.old) }
-        ensures answers { PullAnswers self.old self.new result }
+    /// next. The first fault of this end is answered again by each later call. It takes no memory: a frame is
+    /// cut and read where it lies in the receive buffer.
+    pub fn pull(&mut self) -> Result<Option<Frame>, LinkBad>
+        ensures again { (bad : LinkBad) → self.old.fault ≡ Some bad → (result ≡ Err bad) × (self.new ≡ self.old) }
+        ensures answers { PullAnswers (receiver_of self.old) (receiver_of self.new) result }
+        ensures pipes { self.new ≡ rx_of (receiver_of self.new) self.old.forth self.old.back self.old.forth_name self.old.back_name }
         ensures stands { RxStands self.new }
     {
-        if self.receiver.starved() {
-            return Err(PullFault::OutOfMemory);
-        }
         if let Some(bad) = self.receiver.fault() {
-            return Err(PullFault::Bad(bad));
+            return Err(bad);
         }
         self.receiver.pull()
     }

@@ -1,5 +1,5 @@
 -- The link's end tells of what came before it, or of something else.
-use Rattle.std.proofs.Common.{rules, ◌≡◌, ◌+◌, ℕ, List, true, false, Some, length, take, drop, refl, sym, ap, ◌∙◌, subst, inr, arith}
+use Rattle.std.proofs.Common.{rules, ◌≡◌, ◌+◌, ℕ, List, true, false, Some, Err, length, take, drop, refl, sym, ap, ◌∙◌, subst, inr, arith}
 use Rattle.std.proofs.lemmas.List.{length-take, length-drop, drop-drop}
 use Rattle.sha2.specs.Sha256.{sha256}
 use Rattle.node_frames.specs.declared.frame.Frame.{Frame}
@@ -15,7 +15,7 @@ use Rattle.credit_link.specs.declared.link_bad.LinkBad.TheVariants as Bad
 use Rattle.credit_link.specs.Frames.{bytes_of_all, wire_behind}
 use Rattle.credit_link.specs.Ahead.{HasWhole, payload_ahead}
 use Rattle.credit_link.specs.Receiving.{ReceiverSeen, GivesFrame}
-use Rattle.credit_link.specs.Pulling.{MeetsBad, IsSealBad}
+use Rattle.credit_link.specs.Pulling.{PullAnswers, IsSealBad}
 use Rattle.credit_link.proofs.Pulled.{ahead, counters_on, pulled_stands, gives, found_of}
 use Rattle.credit_link.proofs.receiver.Receiver.end.Goals as goal
 
@@ -29,7 +29,7 @@ returns-then-differs-clause-answers c =
     let sum : c.finalize_reset.result ≡ sha256 (bytes_of_all given) = c.finalize_reset.ensures.digest (bytes_of_all given) (c.self.invariant.1.digested fault c.if-self.false) in
     let found : Seal = record { frames = i.taken; digest = record { bytes = c.finalize_reset.result } } in
     let bad : LinkBad = Bad.Seal i.at c.args.told found in
-    let now : ReceiverSeen = record { credits = i.credits; given = given; box = box; owed = i.owed; paid = i.paid; ungranted = i.ungranted; last = i.last; finished = i.finished; fault = i.fault; starved = i.starved } in
+    let now : ReceiverSeen = record { credits = i.credits; given = given; box = box; owed = i.owed; paid = i.paid; ungranted = i.ungranted; last = i.last; finished = i.finished; fault = i.fault } in
     let after : ReceiverSeen = record now { fault = Some bad } in
     let seal_bad : IsSealBad given i.finished box c.args.told found = record {
       len = c.args.len;
@@ -39,8 +39,8 @@ returns-then-differs-clause-answers c =
       found_is = λ counted. (found_of given i.bytes.items i.start i.end i.taken i.at i.over i.digest i.finished i.fault c.finalize_reset.result c.self.invariant.1 sum counted).1;
       differs = λ counted. c.differs.ensures.differs c.if-differs.true (found_of given i.bytes.items i.start i.end i.taken i.at i.over i.digest i.finished i.fault c.finalize_reset.result c.self.invariant.1 sum counted).0;
     } in
-    subst (λ (before : ReceiverSeen). MeetsBad before.given before.finished before.box bad × (after ≡ record before { fault = Some bad })) c.self.view_is
-    (inr (c.args.told, found, ap (λ n. Bad.Seal n c.args.told found) c.self.invariant.1.at_is, seal_bad), refl)
+    subst (λ (before : ReceiverSeen). PullAnswers before after (Err bad)) c.self.view_is
+    (inr (inr (c.args.told, found, ap (λ n. Bad.Seal n c.args.told found) c.self.invariant.1.at_is, seal_bad), refl))
 
 pub invariant_of-self-2 : goal.invariant_of-self-2
 invariant_of-self-2 c =
@@ -57,7 +57,7 @@ invariant_of-self-2 c =
     let same = c.differs.ensures.agrees c.if-differs.false in
     let found = found_of given i.bytes.items i.start i.end i.taken i.at i.over i.digest i.finished i.fault c.finalize_reset.result c.self.invariant.1 sum (c.self.invariant.1.over_is same.0) in
     let wire : wire_behind given Finish ≡ Sealed c.args.told = ap (λ s. Sealed s) (sym found.1 ∙ sym same.1) in
-    let now : ReceiverSeen = record { credits = i.credits; given = given; box = box; owed = i.owed; paid = i.paid; ungranted = i.ungranted; last = i.last; finished = i.finished; fault = i.fault; starved = i.starved } in
+    let now : ReceiverSeen = record { credits = i.credits; given = given; box = box; owed = i.owed; paid = i.paid; ungranted = i.ungranted; last = i.last; finished = i.finished; fault = i.fault } in
     let later : List ℕ = drop (i.start + (4 + c.args.len)) (take i.end i.bytes.items) in (
       pulled_stands now Finish c.and-self-inside.result.items later c.saturating_add-self-inside-3.result i.at true c.self.invariant.0 c.and-self-inside.ensures
           (omega (arith, length-drop (i.start + (4 + c.args.len)) (take i.end i.bytes.items), length-take i.end i.bytes.items, c.self.invariant.1.within.1)) c.saturating_add-self-inside-3.ensures c.self.invariant.1.at_is (search rules),
@@ -82,7 +82,7 @@ returns-clause-answers c =
     let same = c.differs.ensures.agrees c.if-differs.false in
     let found = found_of given i.bytes.items i.start i.end i.taken i.at i.over i.digest i.finished i.fault c.finalize_reset.result c.self.invariant.1 sum (c.self.invariant.1.over_is same.0) in
     let wire : wire_behind given Finish ≡ Sealed c.args.told = ap (λ s. Sealed s) (sym found.1 ∙ sym same.1) in
-    let now : ReceiverSeen = record { credits = i.credits; given = given; box = box; owed = i.owed; paid = i.paid; ungranted = i.ungranted; last = i.last; finished = i.finished; fault = i.fault; starved = i.starved } in
+    let now : ReceiverSeen = record { credits = i.credits; given = given; box = box; owed = i.owed; paid = i.paid; ungranted = i.ungranted; last = i.last; finished = i.finished; fault = i.fault } in
     let later : List ℕ = drop (i.start + (4 + c.args.len)) (take i.end i.bytes.items) in
     let after : ReceiverSeen = record now { given = c.and-self-inside.result.items; box = later; ungranted = c.saturating_add-self-inside-3.result; last = i.at; finished = true } in
     let opens : Opens (wire_behind given Finish) box later =

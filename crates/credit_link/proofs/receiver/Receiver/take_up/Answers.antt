@@ -28,7 +28,7 @@ invariant_of-self c =
     let at = ahead (Plain frame) box c.args.len are there spells in
     let plain = plain_wire frame (payload_ahead box c.args.len) spells in
     let wire : wire_behind given frame ≡ Plain frame = plain.1 (length given) (bytes_of_all given) in
-    let now : ReceiverSeen = record { credits = i.credits; given = given; box = box; owed = i.owed; paid = i.paid; ungranted = i.ungranted; last = i.last; finished = i.finished; fault = i.fault; starved = i.starved } in
+    let now : ReceiverSeen = record { credits = i.credits; given = given; box = box; owed = i.owed; paid = i.paid; ungranted = i.ungranted; last = i.last; finished = i.finished; fault = i.fault } in
     let later : List ℕ = drop (i.start + (4 + c.args.len)) (take i.end i.bytes.items) in
     let H : List ℕ → Type 0 = λ bytes. Holds256 c.update.new.self bytes in
     let K : List ℕ → Type 0 = λ bytes. H (bytes_of_all given ++ bytes) in
@@ -55,7 +55,7 @@ returns-clause-gives c =
     let at = ahead (Plain frame) box c.args.len are there spells in
     let plain = plain_wire frame (payload_ahead box c.args.len) spells in
     let wire : wire_behind given frame ≡ Plain frame = plain.1 (length given) (bytes_of_all given) in
-    let now : ReceiverSeen = record { credits = i.credits; given = given; box = box; owed = i.owed; paid = i.paid; ungranted = i.ungranted; last = i.last; finished = i.finished; fault = i.fault; starved = i.starved } in
+    let now : ReceiverSeen = record { credits = i.credits; given = given; box = box; owed = i.owed; paid = i.paid; ungranted = i.ungranted; last = i.last; finished = i.finished; fault = i.fault } in
     let later : List ℕ = drop (i.start + (4 + c.args.len)) (take i.end i.bytes.items) in
     let after : ReceiverSeen = record now { given = c.and-self-inside.result.items; box = later; ungranted = c.saturating_add-self-inside-3.result; last = i.at } in
     let opens : Opens (wire_behind given frame) box later =
