@@ -1,0 +1,8 @@
+//! What makes a pipeline right: what may stand on each link, what each node promises of what it took and
+//! put, and what follows at every moment of every run, for any numbers of nodes. It has no code but
+//! laws: calls that do nothing, whose contracts say what is true.
+#![tactic(auto)]
+
+mod laws;
+
+pub use laws::start_is_snapshot;
