@@ -87,13 +87,13 @@ groups_closed job shape taken =
     upto (is_closed (under (least_of_captures job shape taken)) job.window) (groups_of job.window (summaries_taken shape taken))
 
 -- the first member, if there is one
-abbrev pub first_of : List Summary → Summary
-first_of [] = record { at = record { time = 0; capture = 0; number = 0 }; key = []; vals = [] }
-first_of (s ∷ ss) = s
+abbrev pub first_member : List Summary → Summary
+first_member [] = record { at = record { time = 0; capture = 0; number = 0 }; key = []; vals = [] }
+first_member (s ∷ ss) = s
 
 -- the time of a group's first member
 abbrev pub began : Copies → ℕ
-began x = (first_of x.members).at.time
+began x = (first_member x.members).at.time
 
 -- The groups sent are a front of the closed ones and went to the processors in turn. While a capture has not ended
 -- a mark is at most the least mark less the window; each closed group that begins below a mark was sent whole
@@ -114,7 +114,7 @@ pub record GrouperKeeps (job : Declared) (shape : Shape) (grouper : ℕ) (taken 
 
 -- the answer to a group
 abbrev pub answer_of : Declared → Copies → Answer
-answer_of job x = answer_to job.query x (first_of x.members)
+answer_of job x = answer_to job.query x (first_member x.members)
 
 abbrev pub answers_of : Declared → List Copies → List Answer
 answers_of job xs = map (answer_of job) xs

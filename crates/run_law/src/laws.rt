@@ -1,5 +1,11 @@
 //! The laws of a run: calls that do nothing.
-ghost use Rattle.run_law.specs.Laws.{StartIsSnapshot};
+ghost use Rattle.run_law.specs.Laws.{GroupsSentAreFront, StartIsSnapshot};
+
+/// At every moment the groups that a grouper sent, over all its links in the order of their closing, are the first
+/// groups of its shard.
+pub fn groups_sent_are_front_of_shard()
+    ensures { GroupsSentAreFront }
+{}
 
 /// The start of a run, with nothing read, put, sent, taken or written, is such a moment.
 pub fn start_is_snapshot()
