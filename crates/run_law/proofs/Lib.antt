@@ -4,3 +4,11 @@ pub mod Bounds
 pub mod Standing
 pub mod Parsed
 pub mod Sharded
+pub mod Ordered
+pub mod Coming
+pub mod Parts
+pub mod Sorted
+pub mod Answered
+pub mod Counted
+pub mod Added
+pub mod Written

@@ -230,3 +230,14 @@ of_numbered n k e (y ∷ ys) (inr l) = inr (of_numbered n (k + 1) e ys l)
 
 pub of_dealt : {X : Type 0} (n g q : ℕ) (x : X) (xs : List X) → IsIn x (dealt n g q xs) → IsIn x xs
 of_dealt n g q x xs h = of_numbered n g (q, x) xs (of_number q x (numbered n g xs) h)
+
+-- what goes to one of two parts
+pub dealt_parts : {X : Type 0} (n g q : ℕ) (x : X) (xs ys : List X) → IsIn x (dealt n g q (xs ++ ys)) → IsIn x (dealt n g q xs) ⊎ IsIn x ys
+dealt_parts n g q x xs ys h =
+    let split : IsIn x (dealt n g q xs ++ with_number q (numbered n (g + length xs) ys)) =
+    subst (λ zs. IsIn x zs) (ap (with_number q) (numbered-append n g xs ys) ∙ number-append q (numbered n g xs) (numbered n (g + length xs) ys)) h in
+    ⊎_elim
+    (λ (l : IsIn x (dealt n g q xs)). inl l)
+    (λ (r : IsIn x (with_number q (numbered n (g + length xs) ys))).
+    inr (of_numbered n (g + length xs) (q, x) ys (of_number q x (numbered n (g + length xs) ys) r)))
+    (in_either x (dealt n g q xs) (with_number q (numbered n (g + length xs) ys)) split)

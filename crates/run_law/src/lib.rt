@@ -5,4 +5,4 @@
 
 mod laws;
 
-pub use laws::{groups_sent_are_front_of_shard, start_is_snapshot};
+pub use laws::{groups_sent_are_front_of_shard, start_is_snapshot, written_is_front_of_report};
