@@ -12,3 +12,6 @@ pub mod Answered
 pub mod Counted
 pub mod Added
 pub mod Written
+pub mod Joining
+pub mod Ended
+pub mod Rows

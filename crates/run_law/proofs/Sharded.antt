@@ -95,7 +95,7 @@ behind_filter test at (s ∷ ss) h =
     (λ (f : test s ≡ false). rw f (behind_filter test at ss h.1))
     (cases_Bool (test s))
 
-order_filter : (test : Summary → Bool) (ss : List Summary) → InStampOrder ss → InStampOrder (filter test ss)
+pub order_filter : (test : Summary → Bool) (ss : List Summary) → InStampOrder ss → InStampOrder (filter test ss)
 order_filter test [] h = tt
 order_filter test (s ∷ ss) h =
     ⊎_elim
@@ -193,7 +193,7 @@ module _ (job : Declared) (files : List (List ℕ)) (shape : Shape) (start : Lis
   shard_test g s = is_of_shard g shape.groupers s.key
 
   -- which file a number names
-  file_there : (c : ℕ) (bytes : List ℕ) → slice_get files c ≡ Some bytes → (file_of files c ≡ bytes) × (c < length job.captures)
+  pub file_there : (c : ℕ) (bytes : List ℕ) → slice_get files c ≡ Some bytes → (file_of files c ≡ bytes) × (c < length job.captures)
   file_there c bytes h =
       let within : c < length files = slice_get_within files c bytes h in
       (get_or_from_slice_get files c bytes [] h, omega (arith, run.files_are))

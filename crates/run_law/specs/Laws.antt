@@ -1,12 +1,16 @@
 -- What is true at every moment of a run, of every job, its files and every shape.
-use Rattle.std.specs.Prelude.{ℕ, ◌≡◌, ◌<◌, List, ◌++◌, length}
-use Rattle.central_report.specs.Report.{groups, report}
+use Rattle.std.specs.Prelude.{ℕ, ◌≡◌, ◌<◌, ◌≤◌, ◌+◌, ◌%◌, ◌==◌, List, ◌++◌, length, filter}
+use Rattle.central_report.specs.Report.{accepted, groups, report}
 use Rattle.ds_base.specs.Copies.{Copies}
+use Rattle.ds_base.specs.Fronts.{IsIn}
+use Rattle.ds_base.specs.Order.{Precedes}
+use Rattle.ds_base.specs.declared.summary.Summary.{Summary}
 use Rattle.summary_spec.specs.Declaration.{Declared}
 use Rattle.summary_spec.specs.Lawful.{IsLawful}
+use Rattle.run_law.specs.Nodes.{below, first_member, began}
 use Rattle.run_law.specs.Sent.{groups_in}
-use Rattle.run_law.specs.Shapes.{Shape, IsShape, groups_of_shard, dealt, IsFront}
-use Rattle.run_law.specs.Snapshot.{Lists, Snapshot, at_start}
+use Rattle.run_law.specs.Shapes.{Shape, IsShape, groups_of_shard, summaries_of_shard, dealt, IsFront}
+use Rattle.run_law.specs.Snapshot.{Link, Lists, Snapshot, AreDone, IsSettled, at_start}
 
 -- a job, with a file for each of its captures, and a shape
 pub record IsRun (job : Declared) (files : List (List ℕ)) (shape : Shape) : Type 0 where
@@ -48,3 +52,56 @@ WrittenIsFront = (job : Declared) (files : List (List ℕ)) (shape : Shape) (sta
 abbrev pub StartIsSnapshot : Type 0
 StartIsSnapshot = (job : Declared) (files : List (List ℕ)) (shape : Shape) (start : List ℕ)
     → IsRun job files shape → Snapshot job files shape start (at_start start)
+
+-- the summary is of the group's key, not before its first member, and within the window of that
+pub record MayJoin (window : ℕ) (x : Copies) (s : Summary) : Type 0 where
+  pub key : s.key ≡ x.key
+  pub behind : Precedes s.at (first_member x.members).at → ⊥
+  pub within : s.at.time ≤ began x + window
+
+-- whatever is accepted of the files, a group that was sent has all members that it could have
+abbrev pub NoGroupGains : Type 0
+NoGroupGains = (job : Declared) (files : List (List ℕ)) (shape : Shape) (start : List ℕ) (lists : Lists)
+    → IsRun job files shape → Snapshot job files shape start lists
+    → (g q : ℕ) (x : Copies) (s : Summary) → g < shape.groupers → q < shape.processors → IsIn x (groups_in (lists.groups g q).put)
+    → IsIn s (accepted job files) → MayJoin job.window x s → IsIn s x.members
+
+-- the report was written, and every link is settled
+pub record HasEndedWhole (job : Declared) (files : List (List ℕ)) (shape : Shape) (start : List ℕ) (lists : Lists) : Type 0 where
+  pub written : lists.written ≡ start ++ report job files
+  pub items : (p g : ℕ) → p < shape.parsers → g < shape.groupers → IsSettled (lists.items p g)
+  pub counts : (p : ℕ) → p < shape.parsers → IsSettled (lists.counts p)
+  pub groups : (g q : ℕ) → g < shape.groupers → q < shape.processors → IsSettled (lists.groups g q)
+  pub answers : (q : ℕ) → q < shape.processors → IsSettled (lists.answers q)
+
+abbrev pub DoneIsWhole : Type 0
+DoneIsWhole = (job : Declared) (files : List (List ℕ)) (shape : Shape) (start : List ℕ) (lists : Lists)
+    → IsRun job files shape → Snapshot job files shape start lists → AreDone job shape start lists → HasEndedWhole job files shape start lists
+
+-- ---- the rows of the links
+
+-- a link whose end was taken: as many frames were sent as taken, and at least one
+pub record IsRowOfDone (link : Link) : Type 0 where
+  pub same : length link.sent ≡ length link.taken
+  pub some : 1 ≤ length link.sent
+
+-- the captures of a parser
+abbrev pub captures_of : Declared → Shape → (parser : ℕ) → List ℕ
+captures_of job shape parser = filter (λ c. c % shape.parsers == parser) (below (length job.captures))
+
+-- the accepted summaries of a parser's captures whose keys are of a shard
+abbrev pub accepted_between : Declared → List (List ℕ) → Shape → (parser grouper : ℕ) → List Summary
+accepted_between job files shape parser grouper =
+    filter (λ s. s.at.capture % shape.parsers == parser) (summaries_of_shard grouper shape.groupers (accepted job files))
+
+pub record RowsOfDone (job : Declared) (files : List (List ℕ)) (shape : Shape) (lists : Lists) : Type 0 where
+  pub items : (p g : ℕ) → p < shape.parsers → g < shape.groupers → IsRowOfDone (lists.items p g)
+  pub counts : (p : ℕ) → p < shape.parsers → IsRowOfDone (lists.counts p)
+  pub groups : (g q : ℕ) → g < shape.groupers → q < shape.processors → IsRowOfDone (lists.groups g q)
+  pub answers : (q : ℕ) → q < shape.processors → IsRowOfDone (lists.answers q)
+  pub least : (p g : ℕ) → p < shape.parsers → g < shape.groupers
+      → length (accepted_between job files shape p g) + length (captures_of job shape p) + 1 ≤ length (lists.items p g).sent
+
+abbrev pub RowsAreLawful : Type 0
+RowsAreLawful = (job : Declared) (files : List (List ℕ)) (shape : Shape) (start : List ℕ) (lists : Lists)
+    → IsRun job files shape → Snapshot job files shape start lists → AreDone job shape start lists → RowsOfDone job files shape lists

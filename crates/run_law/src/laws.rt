@@ -1,5 +1,5 @@
 //! The laws of a run: calls that do nothing.
-ghost use Rattle.run_law.specs.Laws.{GroupsSentAreFront, StartIsSnapshot, WrittenIsFront};
+ghost use Rattle.run_law.specs.Laws.{DoneIsWhole, GroupsSentAreFront, NoGroupGains, RowsAreLawful, StartIsSnapshot, WrittenIsFront};
 
 /// At every moment the groups that a grouper sent, over all its links in the order of their closing, are the first
 /// groups of its shard.
@@ -7,9 +7,27 @@ pub fn groups_sent_are_front_of_shard()
     ensures { GroupsSentAreFront }
 {}
 
+/// Whatever the files hold behind what was read, a group that was sent gains no member: each accepted summary that
+/// could be in it is in it.
+pub fn no_sent_group_gains()
+    ensures { NoGroupGains }
+{}
+
 /// At every moment what was written is what stood there at the start and then a front of the report.
 pub fn written_is_front_of_report()
     ensures { WrittenIsFront }
+{}
+
+/// Where the end of every link was taken and the merge has written all its lines, the report was written, and
+/// every frame that was put on a link was sent and taken.
+pub fn done_has_written_report()
+    ensures { DoneIsWhole }
+{}
+
+/// In the row of each link of such a run as many frames were sent as taken, and at least one; and from a parser to a
+/// grouper at least the accepted summaries between them, an end for each of the parser's captures, and the end.
+pub fn rows_of_done_links()
+    ensures { RowsAreLawful }
 {}
 
 /// The start of a run, with nothing read, put, sent, taken or written, is such a moment.
