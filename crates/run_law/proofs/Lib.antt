@@ -15,3 +15,4 @@ pub mod Written
 pub mod Joining
 pub mod Ended
 pub mod Rows
+pub mod Resting

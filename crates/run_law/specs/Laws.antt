@@ -1,16 +1,18 @@
 -- What is true at every moment of a run, of every job, its files and every shape.
-use Rattle.std.specs.Prelude.{ℕ, ◌≡◌, ◌<◌, ◌≤◌, ◌+◌, ◌%◌, ◌==◌, List, ◌++◌, length, filter}
+use Rattle.std.specs.Prelude.{ℕ, ◌⊎◌, Some, ◌≡◌, ◌<◌, ◌≤◌, ◌+◌, ◌%◌, ◌==◌, List, ◌++◌, length, filter}
 use Rattle.central_report.specs.Report.{accepted, groups, report}
 use Rattle.ds_base.specs.Copies.{Copies}
-use Rattle.ds_base.specs.Fronts.{IsIn}
+use Rattle.ds_base.specs.Fronts.{IsIn, upto}
 use Rattle.ds_base.specs.Order.{Precedes}
 use Rattle.ds_base.specs.declared.summary.Summary.{Summary}
+use Rattle.ds_base.specs.declared.verdict.Answer.{Answer}
 use Rattle.summary_spec.specs.Declaration.{Declared}
 use Rattle.summary_spec.specs.Lawful.{IsLawful}
-use Rattle.run_law.specs.Nodes.{below, first_member, began}
+use Rattle.watermarks.specs.Least.{under}
+use Rattle.run_law.specs.Nodes.{below, first_member, began, answer_of, answer_texts, answers_taken, least_of_captures, least_of_links, AreInOrder}
 use Rattle.run_law.specs.Sent.{groups_in}
 use Rattle.run_law.specs.Shapes.{Shape, IsShape, groups_of_shard, summaries_of_shard, dealt, IsFront}
-use Rattle.run_law.specs.Snapshot.{Link, Lists, Snapshot, AreDone, IsSettled, at_start}
+use Rattle.run_law.specs.Snapshot.{Link, Lists, Snapshot, AreDone, IsAtRest, IsSettled, at_start}
 
 -- a job, with a file for each of its captures, and a shape
 pub record IsRun (job : Declared) (files : List (List ℕ)) (shape : Shape) : Type 0 where
@@ -65,6 +67,33 @@ NoGroupGains = (job : Declared) (files : List (List ℕ)) (shape : Shape) (start
     → IsRun job files shape → Snapshot job files shape start lists
     → (g q : ℕ) (x : Copies) (s : Summary) → g < shape.groupers → q < shape.processors → IsIn x (groups_in (lists.groups g q).put)
     → IsIn s (accepted job files) → MayJoin job.window x s → IsIn s x.members
+
+-- the answers that the merge may write, of these in their order
+abbrev pub answers_due : Shape → Lists → List Answer → List Answer
+answers_due shape lists ordered = upto (λ a. under (least_of_links shape.processors (λ q. (lists.answers q).taken)) a.first.time) ordered
+
+-- each answer that the merge may write stands before every answer that is still to come
+abbrev pub AnswersToComeAreLater : Type 0
+AnswersToComeAreLater = (job : Declared) (files : List (List ℕ)) (shape : Shape) (start : List ℕ) (lists : Lists)
+    → IsRun job files shape → Snapshot job files shape start lists
+    → (ordered : List Answer) → AreInOrder (answers_taken shape (λ q. (lists.answers q).taken)) ordered
+    → (a : Answer) (x : Copies) → IsIn a (answers_due shape lists ordered) → IsIn x (groups job files)
+    → IsIn (answer_of job x) (answers_taken shape (λ q. (lists.answers q).taken)) ⊎ Precedes a.first (answer_of job x).first
+
+-- the marks of the captures that a grouper took have passed the group: its window ends before the least of them
+pub record IsPassed (job : Declared) (shape : Shape) (lists : Lists) (grouper : ℕ) (x : Copies) : Type 0 where
+  pub least : ℕ
+  pub is : least_of_captures job shape (λ p. (lists.items p grouper).taken) ≡ Some least
+  pub over : began x + job.window < least
+
+-- where nothing is held back, the answer of each group that the marks have passed at every grouper is among those that
+-- were written
+abbrev pub NothingIsHeldBack : Type 0
+NothingIsHeldBack = (job : Declared) (files : List (List ℕ)) (shape : Shape) (start : List ℕ) (lists : Lists)
+    → IsRun job files shape → Snapshot job files shape start lists → IsAtRest job shape start lists
+    → (ordered : List Answer) → AreInOrder (answers_taken shape (λ q. (lists.answers q).taken)) ordered
+    → (x : Copies) → IsIn x (groups job files) → ((g : ℕ) → g < shape.groupers → IsPassed job shape lists g x)
+    → IsIn (answer_of job x) (answers_due shape lists ordered) × (lists.written ≡ start ++ answer_texts job (answers_due shape lists ordered))
 
 -- the report was written, and every link is settled
 pub record HasEndedWhole (job : Declared) (files : List (List ℕ)) (shape : Shape) (start : List ℕ) (lists : Lists) : Type 0 where

@@ -110,6 +110,13 @@ pub record GrouperKeeps (job : Declared) (shape : Shape) (grouper : ℕ) (taken 
   pub finish : (q : ℕ) → q < shape.processors → IsIn Finish (put q)
       → (least_of_captures job shape taken ≡ None) × (sent ≡ groups_closed job shape taken)
 
+-- A grouper holds nothing back: on each link it put all closed groups that go there, and, while a capture has not ended,
+-- its last mark there is the least mark less the window.
+pub record GrouperSendsAll (job : Declared) (shape : Shape) (grouper : ℕ) (taken put : ℕ → List Frame) : Type 0 where
+  pub groups : (q : ℕ) → q < shape.processors → groups_in (put q) ≡ dealt shape.processors grouper q (groups_closed job shape taken)
+  pub marks : (q least : ℕ) → q < shape.processors → least_of_captures job shape taken ≡ Some least
+      → bound_in of_firsts (put q) ≡ Some (least - job.window)
+
 -- ---- query processor
 
 -- the answer to a group
@@ -154,6 +161,12 @@ pub record ProcessorKeeps (job : Declared) (shape : Shape) (taken : ℕ → List
       → IsAskedProfile job.profile (groups_arrived arrived) rows → IsFront (rows_in put) rows
   pub finish : IsIn Finish put
       → HasAnsweredAll job shape arrived taken put × IsAskedProfile job.profile (groups_arrived arrived) (rows_in put)
+
+-- A processor holds nothing back: the answer of each whole group taken was put, and, while a grouper has not finished, its
+-- last mark is the least of theirs.
+pub record ProcessorSendsAll (job : Declared) (shape : Shape) (taken : ℕ → List Frame) (put : List Frame) : Type 0 where
+  pub answers : (g : ℕ) (x : Copies) → g < shape.groupers → IsIn x (groups_in (taken g)) → IsIn (answer_of job x) (answers_in put)
+  pub marks : (least : ℕ) → least_of_links shape.groupers taken ≡ Some least → bound_in of_firsts put ≡ Some least
 
 -- ---- merge
 
@@ -209,3 +222,8 @@ pub record MergeKeeps (job : Declared) (shape : Shape) (counts taken : ℕ → L
   pub gained : List ℕ
   pub since : written ≡ start ++ gained
   pub due : (ordered : List Answer) → AreInOrder (answers_taken shape taken) ordered → IsFront gained (lines_due job shape counts taken ordered)
+
+-- the merge holds nothing back: it has written all lines that may be written
+abbrev pub HasWrittenDue : Declared → Shape → (counts taken : ℕ → List Frame) → (start written : List ℕ) → Type 0
+HasWrittenDue job shape counts taken start written =
+    (ordered : List Answer) → AreInOrder (answers_taken shape taken) ordered → written ≡ start ++ lines_due job shape counts taken ordered

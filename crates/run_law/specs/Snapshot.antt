@@ -1,12 +1,11 @@
 -- A moment of a run: what was read, sent, taken and written so far, on every link and by every node.
-use Rattle.std.specs.Prelude.{ℕ, ◌≡◌, ◌<◌, true, false, List, [], ◌++◌, length, slice_index_or}
+use Rattle.std.specs.Prelude.{ℕ, ◌≡◌, ◌<◌, true, false, List, [], length, slice_index_or}
 use Rattle.ds_base.specs.Fronts.{IsIn}
-use Rattle.ds_base.specs.declared.verdict.Answer.{Answer}
 use Rattle.node_frames.specs.declared.frame.Frame.{Frame}
 use Rattle.node_frames.specs.declared.frame.Frame.TheVariants.{Finish}
 use Rattle.summary_spec.specs.Declaration.{Declared}
 use Rattle.run_law.specs.Links.{AreLawfulItems, AreLawfulCounts, AreLawfulGroups, AreLawfulAnswers}
-use Rattle.run_law.specs.Nodes.{Reading, ParserKeeps, GrouperKeeps, ProcessorKeeps, MergeKeeps, AreInOrder, answers_taken, lines_due}
+use Rattle.run_law.specs.Nodes.{Reading, ParserKeeps, GrouperKeeps, ProcessorKeeps, MergeKeeps, GrouperSendsAll, ProcessorSendsAll, HasWrittenDue}
 use Rattle.run_law.specs.Shapes.{Shape, IsFront}
 
 -- a link: the frames put for it, those of them that were sent, and those of these that were taken
@@ -69,8 +68,15 @@ pub record AreDone (job : Declared) (shape : Shape) (start : List ℕ) (lists : 
   pub counts : (p : ℕ) → p < shape.parsers → IsIn Finish (lists.counts p).taken
   pub groups : (g q : ℕ) → g < shape.groupers → q < shape.processors → IsIn Finish (lists.groups g q).taken
   pub answers : (q : ℕ) → q < shape.processors → IsIn Finish (lists.answers q).taken
-  pub written : (ordered : List Answer) → AreInOrder (answers_taken shape (λ q. (lists.answers q).taken)) ordered
-      → lists.written ≡ start ++ lines_due job shape (λ p. (lists.counts p).taken) (λ q. (lists.answers q).taken) ordered
+  pub written : HasWrittenDue job shape (λ p. (lists.counts p).taken) (λ q. (lists.answers q).taken) start lists.written
+
+-- every frame of groupers and processors was taken, and no grouper, processor or merge holds anything back
+pub record IsAtRest (job : Declared) (shape : Shape) (start : List ℕ) (lists : Lists) : Type 0 where
+  pub groups_taken : (g q : ℕ) → g < shape.groupers → q < shape.processors → (lists.groups g q).taken ≡ (lists.groups g q).put
+  pub answers_taken : (q : ℕ) → q < shape.processors → (lists.answers q).taken ≡ (lists.answers q).put
+  pub groupers : (g : ℕ) → g < shape.groupers → GrouperSendsAll job shape g (λ p. (lists.items p g).taken) (λ q. (lists.groups g q).put)
+  pub processors : (q : ℕ) → q < shape.processors → ProcessorSendsAll job shape (λ g. (lists.groups g q).taken) (lists.answers q).put
+  pub merge : HasWrittenDue job shape (λ p. (lists.counts p).taken) (λ q. (lists.answers q).taken) start lists.written
 
 -- nothing was read, put, sent or taken yet
 abbrev pub unread : Reading

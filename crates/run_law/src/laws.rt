@@ -1,5 +1,5 @@
 //! The laws of a run: calls that do nothing.
-ghost use Rattle.run_law.specs.Laws.{DoneIsWhole, GroupsSentAreFront, NoGroupGains, RowsAreLawful, StartIsSnapshot, WrittenIsFront};
+ghost use Rattle.run_law.specs.Laws.{AnswersToComeAreLater, DoneIsWhole, GroupsSentAreFront, NoGroupGains, NothingIsHeldBack, RowsAreLawful, StartIsSnapshot, WrittenIsFront};
 
 /// At every moment the groups that a grouper sent, over all its links in the order of their closing, are the first
 /// groups of its shard.
@@ -16,6 +16,17 @@ pub fn no_sent_group_gains()
 /// At every moment what was written is what stood there at the start and then a front of the report.
 pub fn written_is_front_of_report()
     ensures { WrittenIsFront }
+{}
+
+/// At every moment each answer that the merge may write stands before every answer that is still to come.
+pub fn answers_to_come_are_later()
+    ensures { AnswersToComeAreLater }
+{}
+
+/// Where every frame of groupers and processors was taken, and no grouper, processor or merge holds anything back, the
+/// lines of all groups that the marks have passed at every grouper are written.
+pub fn nothing_is_held_back()
+    ensures { NothingIsHeldBack }
 {}
 
 /// Where the end of every link was taken and the merge has written all its lines, the report was written, and
