@@ -12,7 +12,7 @@ use Rattle.ds_base.specs.declared.capture.Counts.{Counts}
 use Rattle.key_select.specs.Fates.{accepted_of, counts_of}
 use Rattle.node_frames.specs.declared.frame.Frame.{Frame}
 use Rattle.node_frames.specs.declared.frame.Frame.TheVariants.{Item, Mark, CaptureEnd, GroupHead, Member, GroupMark, AnswerRow, Profile, CountsRow, Finish}
-use Rattle.pcap_reader.specs.Good.{good}
+use Rattle.run_law.specs.Wanted.{good_of}
 use Rattle.summary_spec.specs.Declaration.{Declared}
 use Rattle.run_law.specs.Nodes.{capture_lines}
 use Rattle.run_law.specs.Sent.{counts_in}
@@ -80,7 +80,7 @@ row_counts c k (Finish ∷ fs) (inr there) h = row_counts c k fs there h
 -- the counts of a file that is given with its capture, or none yet
 abbrev IsGiven : Declared → (c : ℕ) → Option Counts → (bytes : List ℕ) → Type 0
 IsGiven job c None bytes = Unit {0}
-IsGiven job c (Some k) bytes = k ≡ counts_of job c (good bytes).records (good bytes).cut
+IsGiven job c (Some k) bytes = k ≡ counts_of job c (good_of job c bytes).records (good_of job c bytes).cut
 
 -- the counts of the files from this capture on
 abbrev pub AreGiven : Declared → (c : ℕ) → List (Option Counts) → (files : List (List ℕ)) → Type 0
@@ -94,16 +94,16 @@ abbrev pub all_lines : List (Items ℕ) → (capture groups summaries : ℕ) →
 all_lines names c groups summaries counts more = capture_texts names c counts ++ end_text groups (summaries + more)
 
 one_file : (job : Declared) (names : List (Items ℕ)) (c groups summaries : ℕ) (bytes : List ℕ) (files : List (List ℕ)) (rest : List ℕ)
-    → all_lines names (c + 1) groups (summaries + length (accepted_of job c (good bytes).records)) (counts_from job (c + 1) files) (length (accepted_from job (c + 1) files)) ≡ rest
+    → all_lines names (c + 1) groups (summaries + length (accepted_of job c (good_of job c bytes).records)) (counts_from job (c + 1) files) (length (accepted_from job (c + 1) files)) ≡ rest
     → all_lines names c groups summaries (counts_from job c (bytes ∷ files)) (length (accepted_from job c (bytes ∷ files)))
-    ≡ capture_text names c (counts_of job c (good bytes).records (good bytes).cut) ++ rest
+    ≡ capture_text names c (counts_of job c (good_of job c bytes).records (good_of job c bytes).cut) ++ rest
 one_file job names c groups summaries bytes files rest e =
-    let first : List ℕ = capture_text names c (counts_of job c (good bytes).records (good bytes).cut) in
+    let first : List ℕ = capture_text names c (counts_of job c (good_of job c bytes).records (good_of job c bytes).cut) in
     let later : List ℕ = capture_texts names (c + 1) (counts_from job (c + 1) files) in
-    let one : ℕ = length (accepted_of job c (good bytes).records) in
+    let one : ℕ = length (accepted_of job c (good_of job c bytes).records) in
     let more : ℕ = length (accepted_from job (c + 1) files) in
     let sums : summaries + length (accepted_from job c (bytes ∷ files)) ≡ summaries + one + more =
-    omega (arith, length-append (accepted_of job c (good bytes).records) (accepted_from job (c + 1) files)) in
+    omega (arith, length-append (accepted_of job c (good_of job c bytes).records) (accepted_from job (c + 1) files)) in
     append_assoc first later (end_text groups (summaries + length (accepted_from job c (bytes ∷ files))))
     ∙ ap (λ (n : ℕ). first ++ (later ++ end_text groups n)) sums
     ∙ ap (λ (t : List ℕ). first ++ t) e
@@ -119,7 +119,7 @@ lines_front job names c groups summaries (None ∷ ks) (file ∷ files) h =
 lines_front job names c groups summaries (Some k ∷ ks) (file ∷ files) h =
     let rest = lines_front job names (c + 1) groups (summaries + k.accepted) ks files h.1 in
     let first : List ℕ = capture_text names c k in
-    let taken : k.accepted ≡ length (accepted_of job c (good file).records) = ap (λ (z : Counts). z.accepted) h.0 in
+    let taken : k.accepted ≡ length (accepted_of job c (good_of job c file).records) = ap (λ (z : Counts). z.accepted) h.0 in
     record {
       rest = rest.rest;
       joined = one_file job names c groups summaries file files
@@ -143,7 +143,7 @@ lines_all job names c groups summaries (k ∷ ks) [] h there = absurd h
 lines_all job names c groups summaries (None ∷ ks) (file ∷ files) h there = absurd there
 lines_all job names c groups summaries (Some k ∷ ks) (file ∷ files) h there =
     let rest = lines_all job names (c + 1) groups (summaries + k.accepted) ks files h.1 there in
-    let taken : k.accepted ≡ length (accepted_of job c (good file).records) = ap (λ (z : Counts). z.accepted) h.0 in
+    let taken : k.accepted ≡ length (accepted_of job c (good_of job c file).records) = ap (λ (z : Counts). z.accepted) h.0 in
     ap (λ (z : Counts). capture_text names c z ++ capture_lines names (c + 1) groups (summaries + k.accepted) ks) h.0
     ∙ sym (one_file job names c groups summaries file files (capture_lines names (c + 1) groups (summaries + k.accepted) ks)
     (ap (λ (n : ℕ). all_lines names (c + 1) groups (summaries + n) (counts_from job (c + 1) files) (length (accepted_from job (c + 1) files))) (sym taken) ∙ sym rest))
@@ -151,7 +151,7 @@ lines_all job names c groups summaries (Some k ∷ ks) (file ∷ files) h there 
 -- ---- the counts of all captures, by their numbers
 
 pub given_from : (job : Declared) (find : ℕ → Option Counts) (a : ℕ) (files : List (List ℕ))
-    → ((c : ℕ) (k : Counts) → c < length files → find (a + c) ≡ Some k → k ≡ counts_of job (a + c) (good (get_or files c [])).records (good (get_or files c [])).cut)
+    → ((c : ℕ) (k : Counts) → c < length files → find (a + c) ≡ Some k → k ≡ counts_of job (a + c) (good_of job (a + c) (get_or files c [])).records (good_of job (a + c) (get_or files c [])).cut)
     → AreGiven job a (map find (range_with_len a (length files))) files
 given_from job find a [] h = tt
 given_from job find a (file ∷ files) h = (
@@ -164,13 +164,13 @@ given_from job find a (file ∷ files) h = (
     by_found (Some k) e =
         let here : a + 0 ≡ a = omega arith in
         let own = h 0 k (omega arith) (ap find here ∙ e) in
-        rw e (subst (λ (n : ℕ). k ≡ counts_of job n (good file).records (good file).cut) here own)
+        rw e (subst (λ (n : ℕ). k ≡ counts_of job n (good_of job n file).records (good_of job n file).cut) here own)
 
     moved : (c : ℕ) (k : Counts) → c < length files → find (a + 1 + c) ≡ Some k
-        → k ≡ counts_of job (a + 1 + c) (good (get_or files c [])).records (good (get_or files c [])).cut
+        → k ≡ counts_of job (a + 1 + c) (good_of job (a + 1 + c) (get_or files c [])).records (good_of job (a + 1 + c) (get_or files c [])).cut
     moved c k less e =
         let place : a + suc c ≡ a + 1 + c = omega arith in
-        subst (λ (n : ℕ). k ≡ counts_of job n (good (get_or files c [])).records (good (get_or files c [])).cut) place
+        subst (λ (n : ℕ). k ≡ counts_of job n (good_of job n (get_or files c [])).records (good_of job n (get_or files c [])).cut) place
         (h (suc c) k (omega arith) (ap find place ∙ e))
 
 pub there_from : (find : ℕ → Option Counts) (a n : ℕ) → ((c : ℕ) → a ≤ c → c < a + n → find c ≡ None → ⊥) → AreThere (map find (range_with_len a n))

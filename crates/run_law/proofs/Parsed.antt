@@ -13,7 +13,7 @@ use Rattle.key_select.proofs.Tallying.{accepted_parts}
 use Rattle.node_frames.specs.declared.frame.Frame.{Frame}
 use Rattle.node_frames.specs.declared.frame.Frame.TheVariants.{Item, Mark, CaptureEnd, GroupHead, Member, GroupMark, AnswerRow, Profile, CountsRow, Finish}
 use Rattle.pcap_reader.specs.Captured.{Captured}
-use Rattle.pcap_reader.specs.Good.{good}
+use Rattle.run_law.specs.Wanted.{good_of}
 use Rattle.summary_spec.specs.Declaration.{Declared}
 use Rattle.run_law.specs.Links.{ItemRule}
 use Rattle.run_law.specs.Nodes.{Reading, IsWhole, ParserKeeps}
@@ -24,9 +24,9 @@ use Rattle.run_law.proofs.Lists.{all_in, in_all, in_right, in_left, in_either, i
 use Rattle.run_law.proofs.Standing.{stands, lawful_rest, item_left_open}
 
 -- the records of the file are those that were taken up, and later ones
-pub record HasRecords (reading : Reading) (file : List ℕ) : Type 0 where
+pub record HasRecords (job : Declared) (capture : ℕ) (reading : Reading) (file : List ℕ) : Type 0 where
   pub later : List Captured
-  pub is : (good file).records ≡ reading.records ++ later
+  pub is : (good_of job capture file).records ≡ reading.records ++ later
 
 -- what is accepted of a capture is of this capture
 pub of_one_capture : (job : Declared) (c : ℕ) (rs : List Captured) (s : Summary) → IsIn s (accepted_of job c rs) → s.at.capture ≡ c
@@ -59,13 +59,13 @@ module _ (job : Declared) (shape : Shape) (p g : ℕ) (read : ℕ → Reading) (
       subst (λ (n : ℕ). n ≤ s.at.time) (sym m.is) from.1
 
   -- once the capture's end was put, its file has no later records
-  pub none_later : (c : ℕ) (file : List ℕ) (has : HasRecords (read c) file) → IsRead (read c) file → IsWhole (read c) → has.later ≡ []
+  pub none_later : (c : ℕ) (file : List ℕ) (has : HasRecords job c (read c) file) → IsRead (read c) file → IsWhole job c (read c) → has.later ≡ []
   none_later c file has is_read whole =
-      let same : (good file).records ≡ (read c).records =
-      ap (λ (bytes : List ℕ). (good bytes).records) (sym (is_read.whole whole.ended)) ∙ whole.records in
+      let same : (good_of job c file).records ≡ (read c).records =
+      ap (λ (bytes : List ℕ). (good_of job c bytes).records) (sym (is_read.whole whole.ended)) ∙ whole.records in
       append_cancel_left (read c).records has.later [] (sym has.is ∙ same ∙ sym (append-nil (read c).records))
 
-  frame_leaves : (c : ℕ) (file : List ℕ) (has : HasRecords (read c) file) (s : Summary) (f : Frame) → IsRead (read c) file
+  frame_leaves : (c : ℕ) (file : List ℕ) (has : HasRecords job c (read c) file) (s : Summary) (f : Frame) → IsRead (read c) file
       → IsCaptureOf (length job.captures) shape p c
       → IsIn s (accepted_after job c (read c).records has.later) → IsIn f (items g) → MayCome (of_items c f) s.at.time
   frame_leaves c file has s (Item t) is_read own h put = tt
@@ -78,7 +78,7 @@ module _ (job : Declared) (shape : Shape) (p g : ℕ) (read : ℕ → Reading) (
   frame_leaves c file has s (CaptureEnd d) is_read own h put =
       ⊎_elim
       (λ (t : (d == c) ≡ true).
-      let whole : IsWhole (read c) = kept.ends g c below (subst (λ (k : ℕ). IsIn (CaptureEnd k) (items g)) (eqb-true d c t) put) in
+      let whole : IsWhole job c (read c) = kept.ends g c below (subst (λ (k : ℕ). IsIn (CaptureEnd k) (items g)) (eqb-true d c t) put) in
       absurd (subst (λ rs. IsIn s (accepted_after job c (read c).records rs)) (none_later c file has is_read whole) h))
       (λ (f : (d == c) ≡ false). rw f tt)
       (cases_Bool (d == c))
@@ -90,12 +90,12 @@ module _ (job : Declared) (shape : Shape) (p g : ℕ) (read : ℕ → Reading) (
   frame_leaves c file has s (CountsRow d k) is_read own h put = tt
   frame_leaves c file has s Finish is_read own h put =
       let end = stands (ItemRule job shape p g) (items g) Finish (kept.lawful g below) put in
-      let whole : IsWhole (read c) = kept.ends g c below (in_front (CaptureEnd c) end.before (items g) end.front (end.own c own)) in
+      let whole : IsWhole job c (read c) = kept.ends g c below (in_front (CaptureEnd c) end.before (items g) end.front (end.own c own)) in
       absurd (subst (λ rs. IsIn s (accepted_after job c (read c).records rs)) (none_later c file has is_read whole) h)
 
   -- each accepted summary of the shard was put, or every frame that was put leaves it open
-  put_or_open : (c : ℕ) (file : List ℕ) (has : HasRecords (read c) file) (s : Summary) → IsRead (read c) file
-      → IsCaptureOf (length job.captures) shape p c → IsIn s (accepted_of job c (good file).records) → is_of_shard g shape.groupers s.key ≡ true
+  put_or_open : (c : ℕ) (file : List ℕ) (has : HasRecords job c (read c) file) (s : Summary) → IsRead (read c) file
+      → IsCaptureOf (length job.captures) shape p c → IsIn s (accepted_of job c (good_of job c file).records) → is_of_shard g shape.groupers s.key ≡ true
       → IsIn s (items_in (items g)) ⊎ IsLeftOpen (of_items c) (items g) s.at.time
   put_or_open c file has s is_read own h shard =
       let split : IsIn s (accepted_of job c (read c).records ++ accepted_after job c (read c).records has.later) =
@@ -111,11 +111,11 @@ module _ (job : Declared) (shape : Shape) (p g : ℕ) (read : ℕ → Reading) (
       (in_either s (accepted_of job c (read c).records) (accepted_after job c (read c).records has.later) split)
 
   -- the same of a front that was taken
-  pub taken_or_open : (taken : List Frame) (c : ℕ) (file : List ℕ) (has : HasRecords (read c) file) (s : Summary) → IsFront taken (items g) → IsRead (read c) file
-      → IsCaptureOf (length job.captures) shape p c → IsIn s (accepted_of job c (good file).records) → is_of_shard g shape.groupers s.key ≡ true
+  pub taken_or_open : (taken : List Frame) (c : ℕ) (file : List ℕ) (has : HasRecords job c (read c) file) (s : Summary) → IsFront taken (items g) → IsRead (read c) file
+      → IsCaptureOf (length job.captures) shape p c → IsIn s (accepted_of job c (good_of job c file).records) → is_of_shard g shape.groupers s.key ≡ true
       → IsIn s (items_in taken) ⊎ IsLeftOpen (of_items c) taken s.at.time
   taken_or_open taken c file has s f is_read own h shard =
-      let mine : s.at.capture ≡ c = of_one_capture job c (good file).records s h in
+      let mine : s.at.capture ≡ c = of_one_capture job c (good_of job c file).records s h in
       ⊎_elim
       (λ (put : IsIn s (items_in (items g))).
       let split : IsIn s (items_in taken ++ items_in f.rest) =
@@ -131,9 +131,9 @@ module _ (job : Declared) (shape : Shape) (p g : ℕ) (read : ℕ → Reading) (
       (put_or_open c file has s is_read own h shard)
 
   -- what was put is accepted of the file, and of the shard
-  pub put_is_accepted : (c : ℕ) (file : List ℕ) (has : HasRecords (read c) file) (s : Summary) → s.at.capture ≡ c
+  pub put_is_accepted : (c : ℕ) (file : List ℕ) (has : HasRecords job c (read c) file) (s : Summary) → s.at.capture ≡ c
       → IsCaptureOf (length job.captures) shape p c → IsIn s (items_in (items g))
-      → IsIn s (accepted_of job c (good file).records) × (is_of_shard g shape.groupers s.key ≡ true)
+      → IsIn s (accepted_of job c (good_of job c file).records) × (is_of_shard g shape.groupers s.key ≡ true)
   put_is_accepted c file has s mine own put =
       let here : IsIn s (summaries_of_shard g shape.groupers (accepted_of job c (read c).records)) =
       subst (λ ss. IsIn s ss) (kept.summaries g c below own)

@@ -11,7 +11,7 @@ use Rattle.ds_base.specs.declared.summary.Summary.{Summary}
 use Rattle.key_select.specs.Fates.{accepted_of}
 use Rattle.node_frames.specs.declared.frame.Frame.{Frame}
 use Rattle.node_frames.specs.declared.frame.Frame.TheVariants.{Item, Mark, CaptureEnd, GroupHead, Member, GroupMark, AnswerRow, Profile, CountsRow, Finish}
-use Rattle.pcap_reader.specs.Good.{good}
+use Rattle.run_law.specs.Wanted.{good_of}
 use Rattle.summary_spec.specs.Declaration.{Declared}
 use Rattle.window_grouper.proofs.Stamps.{not_both_ways}
 use Rattle.run_law.specs.Laws.{IsRun, IsRowOfDone, RowsAreLawful, captures_of, accepted_between}
@@ -141,7 +141,7 @@ module _ (job : Declared) (files : List (List ℕ)) (shape : Shape) (start : Lis
       let a = (accepted_is_all job files run.job_is (omega (arith, run.files_are))).0.only s inner.0 in
       let file = file_there job files shape start lists run snap a.capture a.bytes a.file in
       let c : ℕ = a.capture in
-      let mine : s.at.capture ≡ c = of_one_capture job c (good a.bytes).records s a.accepted in
+      let mine : s.at.capture ≡ c = of_one_capture job c (good_of job c a.bytes).records s a.accepted in
       let own : IsCaptureOf (length job.captures) shape p c =
       (file.1, ap (λ (n : ℕ). n % shape.parsers) (sym mine) ∙ eqb-true (s.at.capture % shape.parsers) p outer.1) in
       ⊎_elim
@@ -151,7 +151,7 @@ module _ (job : Declared) (files : List (List ℕ)) (shape : Shape) (start : Lis
       (taken_or_open job shape p g lists.read (λ k. (lists.items p k).put) (lists.counts p).put (snap.parsers p hp) hg
       (lists.items p g).taken c (file_of files c) (has_records job files shape start lists run snap p c hp own) s
       (items_front job files shape start lists run snap p g hp hg) (snap.read c file.1) own
-      (subst (λ bytes. IsIn s (accepted_of job c (good bytes).records)) (sym file.0) a.accepted) inner.1)
+      (subst (λ bytes. IsIn s (accepted_of job c (good_of job c bytes).records)) (sym file.0) a.accepted) inner.1)
 
   -- each capture's end came
   all_ends : (p g : ℕ) → (hp : p < shape.parsers) → (hg : g < shape.groupers) → (c : ℕ) → IsIn c (captures_of job shape p)

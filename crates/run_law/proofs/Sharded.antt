@@ -15,7 +15,7 @@ use Rattle.ds_base.proofs.Fronts.{same_front, in_order}
 use Rattle.key_select.specs.Fates.{accepted_of}
 use Rattle.node_frames.specs.declared.frame.Frame.{Frame}
 use Rattle.node_frames.specs.declared.frame.Frame.TheVariants.{Item}
-use Rattle.pcap_reader.specs.Good.{good}
+use Rattle.run_law.specs.Wanted.{good_of}
 use Rattle.summary_spec.specs.Declaration.{Declared}
 use Rattle.watermarks.specs.Least.{under}
 use Rattle.watermarks.proofs.Lesser.{under_earlier}
@@ -144,11 +144,11 @@ module _ (job : Declared) (files : List (List ℕ)) (shape : Shape) (start : Lis
   pub parser_of : (c : ℕ) → c < length job.captures → (c % shape.parsers < shape.parsers) × IsCaptureOf (length job.captures) shape (c % shape.parsers) c
   parser_of c less = let some : 0 < shape.parsers = run.shape_is.parsers in (omega arith, (less, refl))
 
-  pub has_records : (p c : ℕ) → p < shape.parsers → IsCaptureOf (length job.captures) shape p c → HasRecords (lists.read c) (file_of files c)
+  pub has_records : (p c : ℕ) → p < shape.parsers → IsCaptureOf (length job.captures) shape p c → HasRecords job c (lists.read c) (file_of files c)
   has_records p c hp own =
       let is_read = snap.read c own.0 in
       let first = (snap.parsers p hp).first c own is_read.front.rest in
-      record { later = first.0; is = ap (λ (bytes : List ℕ). (good bytes).records) is_read.front.joined ∙ first.1 }
+      record { later = first.0; is = ap (λ (bytes : List ℕ). (good_of job c bytes).records) is_read.front.joined ∙ first.1 }
 
   -- what came, of a lawful link
   item_own : (p g : ℕ) → p < shape.parsers → g < shape.groupers → (s : Summary) → IsIn s (items_in (lists.items p g).taken) → IsItemOf job shape p g s
@@ -242,7 +242,7 @@ module _ (job : Declared) (files : List (List ℕ)) (shape : Shape) (start : Lis
           (not_under (of_items c) (lists.items p g).taken s.at.time open_still)) pass))
           (taken_or_open job shape p g lists.read (λ k. (lists.items p k).put) (lists.counts p).put (snap.parsers p own.0) hg
           (lists.items p g).taken c (file_of files c) (has_records p c own.0 own.1) s (items_front p g own.0 hg) (snap.read c file.1) own.1
-          (subst (λ bytes. IsIn s (accepted_of job c (good bytes).records)) (sym file.0) a.accepted) parts.1)
+          (subst (λ bytes. IsIn s (accepted_of job c (good_of job c bytes).records)) (sym file.0) a.accepted) parts.1)
 
   -- ---- what they send
 

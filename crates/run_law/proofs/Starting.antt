@@ -2,7 +2,7 @@
 use Rattle.std.proofs.Common.{ℕ, List, [], refl, sym}
 use Rattle.std.proofs.lemmas.List.{append-nil}
 use Rattle.node_frames.specs.declared.frame.Frame.{Frame}
-use Rattle.pcap_reader.specs.Good.{good}
+use Rattle.run_law.specs.Wanted.{good_of}
 use Rattle.summary_spec.specs.Declaration.{Declared}
 use Rattle.run_law.specs.Laws.{StartIsSnapshot}
 use Rattle.run_law.specs.Nodes.{ParserKeeps, GrouperKeeps, ProcessorKeeps, MergeKeeps, groups_closed, lines_due}
@@ -24,7 +24,7 @@ parser_starts : (job : Declared) (shape : Shape) (p : ℕ) → ParserKeeps job s
 parser_starts job shape p = record {
   lawful = λ g less. tt;
   lawful_counts = tt;
-  first = λ c own more. ((good more).records, refl);
+  first = λ c own more. ((good_of job c more).records, refl);
   summaries = λ g c less own. refl;
   marks = λ g c mark less h. absurd h;
   ends = λ g c less h. absurd h;

@@ -17,7 +17,7 @@ use Rattle.ds_base.specs.declared.verdict.Answer.{Answer}
 use Rattle.key_select.specs.Fates.{counts_of}
 use Rattle.node_frames.specs.declared.frame.Frame.{Frame}
 use Rattle.node_frames.specs.declared.frame.Frame.TheVariants.{Item, Mark, CaptureEnd, GroupHead, Member, GroupMark, AnswerRow, Profile, CountsRow, Finish}
-use Rattle.pcap_reader.specs.Good.{good}
+use Rattle.run_law.specs.Wanted.{good_of}
 use Rattle.profiles.proofs.Orders.{in_any_order}
 use Rattle.summary_spec.specs.Declaration.{Declared}
 use Rattle.watermarks.specs.Least.{under}
@@ -149,7 +149,7 @@ module _ (job : Declared) (files : List (List ℕ)) (shape : Shape) (start : Lis
 
   -- the counts of a capture are those of its file
   found_is : (c : ℕ) (k : Counts) → c < length job.captures → found c ≡ Some k
-      → k ≡ counts_of job c (good (file_of files c)).records (good (file_of files c)).cut
+      → k ≡ counts_of job c (good_of job c (file_of files c)).records (good_of job c (file_of files c)).cut
   found_is c k less e =
       let own = parser_of job files shape start lists run snap c less in
       let p : ℕ = c % shape.parsers in
@@ -158,8 +158,8 @@ module _ (job : Declared) (files : List (List ℕ)) (shape : Shape) (start : Lis
       let row = (snap.parsers p own.0).rows c k put in
       let file : (lists.read c).bytes ≡ file_of files c = (snap.read c less).whole row.0.ended in
       row.1
-      ∙ ap (λ rs. counts_of job c rs (good (lists.read c).bytes).cut) (sym row.0.records)
-      ∙ ap (λ (bytes : List ℕ). counts_of job c (good bytes).records (good bytes).cut) file
+      ∙ ap (λ rs. counts_of job c rs (good_of job c (lists.read c).bytes).cut) (sym row.0.records)
+      ∙ ap (λ (bytes : List ℕ). counts_of job c (good_of job c bytes).records (good_of job c bytes).cut) file
 
   pub given : AreGiven job 0 (counts_taken job shape (λ p. (lists.counts p).taken)) files
   given =
@@ -167,11 +167,11 @@ module _ (job : Declared) (files : List (List ℕ)) (shape : Shape) (start : Lis
       (given_from job found 0 files (λ c k less e. at_zero c k less e))
     where
       at_zero : (c : ℕ) (k : Counts) → c < length files → found (0 + c) ≡ Some k
-          → k ≡ counts_of job (0 + c) (good (get_or files c [])).records (good (get_or files c [])).cut
+          → k ≡ counts_of job (0 + c) (good_of job (0 + c) (get_or files c [])).records (good_of job (0 + c) (get_or files c [])).cut
       at_zero c k less e =
           let place : 0 + c ≡ c = omega arith in
           let within : c < length job.captures = omega (arith, run.files_are) in
-          subst (λ (n : ℕ). k ≡ counts_of job n (good (get_or files c [])).records (good (get_or files c [])).cut) (sym place)
+          subst (λ (n : ℕ). k ≡ counts_of job n (good_of job n (get_or files c [])).records (good_of job n (get_or files c [])).cut) (sym place)
           (found_is c k within (ap found (sym place) ∙ e))
 
   -- ---- the report, and the lines that are due

@@ -1,3 +1,4 @@
+pub mod Wanted
 pub mod Shapes
 pub mod Sent
 pub mod Links

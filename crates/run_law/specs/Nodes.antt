@@ -17,7 +17,6 @@ use Rattle.key_select.specs.Late.{mark_of}
 use Rattle.node_frames.specs.declared.frame.Frame.{Frame}
 use Rattle.node_frames.specs.declared.frame.Frame.TheVariants.{Mark, CaptureEnd, GroupMark, Profile, CountsRow, Finish}
 use Rattle.pcap_reader.specs.Captured.{Captured}
-use Rattle.pcap_reader.specs.Good.{good}
 use Rattle.pcap_reader.specs.Lent.{AreFirst}
 use Rattle.profiles.specs.Profile.{IsProfile}
 use Rattle.profiles.specs.Put.{put_all}
@@ -28,6 +27,7 @@ use Rattle.window_grouper.specs.Groups.{groups_of}
 use Rattle.window_grouper.specs.Sorted.{by_stamp}
 use Rattle.run_law.specs.Links.{AreLawfulItems, AreLawfulCounts, AreLawfulGroups, AreLawfulAnswers}
 use Rattle.run_law.specs.Sent.{items_in, answers_in, rows_in, counts_in, groups_in, of_items, of_firsts, bound_in}
+use Rattle.run_law.specs.Wanted.{good_of}
 use Rattle.run_law.specs.Shapes.{Shape, IsCaptureOf, of_capture, summaries_of_shard, with_number, dealt, IsFront}
 
 -- the numbers below n
@@ -44,10 +44,10 @@ pub record Reading : Type 0 where
   pub records : List Captured
 
 -- the whole file was read, it is not malformed, and all its records were taken up
-pub record IsWhole (reading : Reading) : Type 0 where
+pub record IsWhole (job : Declared) (capture : ℕ) (reading : Reading) : Type 0 where
   pub ended : reading.ended ≡ true
-  pub sound : (good reading.bytes).bad ≡ None
-  pub records : (good reading.bytes).records ≡ reading.records
+  pub sound : (good_of job capture reading.bytes).bad ≡ None
+  pub records : (good_of job capture reading.bytes).records ≡ reading.records
 
 -- the newest time of some first records of the capture less its skew
 pub record IsMarkOf (job : Declared) (capture : ℕ) (records : List Captured) (mark : ℕ) : Type 0 where
@@ -65,9 +65,9 @@ pub record ParserKeeps (job : Declared) (shape : Shape) (parser : ℕ) (read : �
   pub summaries : (g c : ℕ) → g < shape.groupers → IsCaptureOf (length job.captures) shape parser c
       → of_capture c (items_in (items g)) ≡ summaries_of_shard g shape.groupers (accepted_of job c (read c).records)
   pub marks : (g c mark : ℕ) → g < shape.groupers → IsIn (Mark c mark) (items g) → IsMarkOf job c (read c).records mark
-  pub ends : (g c : ℕ) → g < shape.groupers → IsIn (CaptureEnd c) (items g) → IsWhole (read c)
+  pub ends : (g c : ℕ) → g < shape.groupers → IsIn (CaptureEnd c) (items g) → IsWhole job c (read c)
   pub rows : (c : ℕ) (k : Counts) → IsIn (CountsRow c k) counts
-      → IsWhole (read c) × (k ≡ counts_of job c (read c).records (good (read c).bytes).cut)
+      → IsWhole job c (read c) × (k ≡ counts_of job c (read c).records (good_of job c (read c).bytes).cut)
 
 -- ---- grouper
 
