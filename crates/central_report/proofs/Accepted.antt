@@ -6,7 +6,7 @@ use Rattle.ds_base.specs.declared.stamp.Stamp.{Stamp}
 use Rattle.ds_base.specs.declared.summary.Summary.{Summary}
 use Rattle.ds_base.specs.Order.{Precedes}
 use Rattle.key_select.specs.Fates.{accepted_of}
-use Rattle.pcap_reader.specs.Good.{good}
+use Rattle.key_select.specs.Wanted.{wanted_of, good_of}
 use Rattle.pcap_reader.proofs.Numbers.{good_numbered}
 use Rattle.summary_spec.specs.Declaration.{Declared}
 use Rattle.summary_spec.specs.Lawful.{IsLawful}
@@ -61,9 +61,9 @@ apart_from : (job : Declared) (capture : ℕ) (files : List (List ℕ))
 apart_from job capture [] = (tt, tt)
 apart_from job capture (bytes ∷ files) =
     let vars = length job.takes in
-    let one : List Summary = accepted_of job capture (good bytes).records in
+    let one : List Summary = accepted_of job capture (good_of job capture bytes).records in
     let others : List Summary = accepted_from job (capture + 1) files in
-    let mine = of_numbered job capture [] (good bytes).records 0 (good_numbered bytes) in
+    let mine = of_numbered job capture [] (good_of job capture bytes).records 0 (good_numbered (wanted_of job capture) bytes) in
     let rest = apart_from job (capture + 1) files in (
       behind_from vars capture 0 one others mine.0 (behind_earlier capture (capture + 1) others (omega arith) rest.0),
       differ_append vars capture 0 one others mine.0 mine.1 (behind_earlier (suc capture) (capture + 1) others (omega arith) rest.0) rest.1,
@@ -81,9 +81,9 @@ all_named : (job : Declared) (capture : ℕ) (files : List (List ℕ)) → IsLaw
     → All (IsSummaryOf job) (accepted_from job capture files)
 all_named job capture [] lawful some = All-nil (IsSummaryOf job)
 all_named job capture (bytes ∷ files) lawful some =
-    let mine = of_numbered job capture [] (good bytes).records 0 (good_numbered bytes) in
-    All-append (IsSummaryOf job) (accepted_of job capture (good bytes).records) (accepted_from job (capture + 1) files)
-    (named_from job (length job.takes) capture 0 (accepted_of job capture (good bytes).records) lawful.takes (omega (arith, some)) mine.0)
+    let mine = of_numbered job capture [] (good_of job capture bytes).records 0 (good_numbered (wanted_of job capture) bytes) in
+    All-append (IsSummaryOf job) (accepted_of job capture (good_of job capture bytes).records) (accepted_from job (capture + 1) files)
+    (named_from job (length job.takes) capture 0 (accepted_of job capture (good_of job capture bytes).records) lawful.takes (omega (arith, some)) mine.0)
     (all_named job (capture + 1) files lawful (omega (arith, some)))
 
 -- ---- how many
@@ -91,10 +91,10 @@ all_named job capture (bytes ∷ files) lawful some =
 few_from : (job : Declared) (capture : ℕ) (files : List (List ℕ)) → length (accepted_from job capture files) ≤ length files * 1099511627776
 few_from job capture [] = omega arith
 few_from job capture (bytes ∷ files) =
-    let one : List Summary = accepted_of job capture (good bytes).records in
+    let one : List Summary = accepted_of job capture (good_of job capture bytes).records in
     let others : List Summary = accepted_from job (capture + 1) files in
-    let mine : length one ≤ length (good bytes).records = accepted_few job capture [] (good bytes).records in
-    let few : length (good bytes).records ≤ 1099511627776 = good_few bytes in
+    let mine : length one ≤ length (good_of job capture bytes).records = accepted_few job capture [] (good_of job capture bytes).records in
+    let few : length (good_of job capture bytes).records ≤ 1099511627776 = good_few (wanted_of job capture) bytes in
     let rest : length others ≤ length files * 1099511627776 = few_from job (capture + 1) files in
     omega (arith, length-append one others, mine, few, rest)
 

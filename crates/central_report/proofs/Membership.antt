@@ -7,7 +7,7 @@ use Rattle.ds_base.specs.declared.stamp.Stamp.{Stamp}
 use Rattle.ds_base.specs.declared.summary.Summary.{Summary}
 use Rattle.ds_base.proofs.Fronts.{same_front}
 use Rattle.key_select.specs.Fates.{accepted_of}
-use Rattle.pcap_reader.specs.Good.{good}
+use Rattle.key_select.specs.Wanted.{good_of}
 use Rattle.summary_spec.specs.Declaration.{Declared}
 use Rattle.window_grouper.specs.Sorted.{by_stamp, insert_by_stamp, is_before}
 use Rattle.window_grouper.proofs.Insertion.{one_order}
@@ -68,30 +68,30 @@ record IsFrom (job : Declared) (capture : ℕ) (files : List (List ℕ)) (s : Su
   at : ℕ
   bytes : List ℕ
   file : slice_get files at ≡ Some bytes
-  accepted : IsIn s (accepted_of job (capture + at) (good bytes).records)
+  accepted : IsIn s (accepted_of job (capture + at) (good_of job (capture + at) bytes).records)
 
 -- whichever number the capture is given by
-renumbered : (job : Declared) (a b : ℕ) (bytes : List ℕ) (s : Summary) → a ≡ b → IsIn s (accepted_of job a (good bytes).records)
-    → IsIn s (accepted_of job b (good bytes).records)
-renumbered job a b bytes s e h = subst (λ (n : ℕ). IsIn s (accepted_of job n (good bytes).records)) e h
+renumbered : (job : Declared) (a b : ℕ) (bytes : List ℕ) (s : Summary) → a ≡ b → IsIn s (accepted_of job a (good_of job a bytes).records)
+    → IsIn s (accepted_of job b (good_of job b bytes).records)
+renumbered job a b bytes s e h = subst (λ (n : ℕ). IsIn s (accepted_of job n (good_of job n bytes).records)) e h
 
 every_from : (job : Declared) (capture : ℕ) (files : List (List ℕ)) (at : ℕ) (bytes : List ℕ) (s : Summary) → slice_get files at ≡ Some bytes
-    → IsIn s (accepted_of job (capture + at) (good bytes).records) → IsIn s (accepted_from job capture files)
+    → IsIn s (accepted_of job (capture + at) (good_of job (capture + at) bytes).records) → IsIn s (accepted_from job capture files)
 every_from job capture [] at bytes s here h = cc
 every_from job capture (file ∷ files) zero bytes s here h =
     let same : bytes ≡ file = cc in
-    let mine = subst (λ (xs : List ℕ). IsIn s (accepted_of job (capture + 0) (good xs).records)) same h in
-    in_left s (accepted_of job capture (good file).records) (accepted_from job (capture + 1) files)
+    let mine = subst (λ (xs : List ℕ). IsIn s (accepted_of job (capture + 0) (good_of job (capture + 0) xs).records)) same h in
+    in_left s (accepted_of job capture (good_of job capture file).records) (accepted_from job (capture + 1) files)
     (renumbered job (capture + 0) capture file s (omega arith) mine)
 every_from job capture (file ∷ files) (suc at) bytes s here h =
-    in_right s (accepted_of job capture (good file).records) (accepted_from job (capture + 1) files)
+    in_right s (accepted_of job capture (good_of job capture file).records) (accepted_from job (capture + 1) files)
     (every_from job (capture + 1) files at bytes s here (renumbered job (capture + suc at) (capture + 1 + at) bytes s (omega arith) h))
 
 only_from : (job : Declared) (capture : ℕ) (files : List (List ℕ)) (s : Summary) → IsIn s (accepted_from job capture files) → IsFrom job capture files s
 only_from job capture [] s h = absurd h
 only_from job capture (file ∷ files) s h =
     ⊎_elim
-    (λ (mine : IsIn s (accepted_of job capture (good file).records)).
+    (λ (mine : IsIn s (accepted_of job capture (good_of job capture file).records)).
     let from : IsFrom job capture (file ∷ files) s = record {
       at = 0;
       bytes = file;
@@ -108,7 +108,7 @@ only_from job capture (file ∷ files) s h =
       accepted = renumbered job (capture + 1 + rest.at) (capture + suc rest.at) rest.bytes s (omega arith) rest.accepted;
     } in
     from)
-    (in_either s (accepted_of job capture (good file).records) (accepted_from job (capture + 1) files) h)
+    (in_either s (accepted_of job capture (good_of job capture file).records) (accepted_from job (capture + 1) files) h)
 
 in_list : (job : Declared) (files : List (List ℕ)) (s : Summary) → IsAcceptedIn job files s → IsIn s (accepted job files)
 in_list job files s h =

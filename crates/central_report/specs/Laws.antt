@@ -4,7 +4,7 @@ use Rattle.ds_base.specs.Fronts.{IsIn}
 use Rattle.ds_base.specs.Order.{InStampOrder}
 use Rattle.ds_base.specs.declared.summary.Summary.{Summary}
 use Rattle.key_select.specs.Fates.{accepted_of}
-use Rattle.pcap_reader.specs.Good.{good}
+use Rattle.key_select.specs.Wanted.{good_of}
 use Rattle.profiles.specs.Profile.{IsProfile}
 use Rattle.summary_spec.specs.Declaration.{Declared}
 use Rattle.summary_spec.specs.Lawful.{IsLawful}
@@ -30,7 +30,7 @@ pub record IsAcceptedIn (job : Declared) (files : List (List ℕ)) (s : Summary)
   pub capture : ℕ
   pub bytes : List ℕ
   pub file : slice_get files capture ≡ Some bytes
-  pub accepted : IsIn s (accepted_of job capture (good bytes).records)
+  pub accepted : IsIn s (accepted_of job capture (good_of job capture bytes).records)
 
 -- the list has each summary that is accepted of a capture, no other, and each before all later ones
 pub record IsAllAccepted (job : Declared) (files : List (List ℕ)) (list : List Summary) : Type 0 where

@@ -10,7 +10,7 @@ use Rattle.ds_base.specs.declared.profile_row.ProfileRow.{ProfileRow}
 use Rattle.ds_base.specs.declared.summary.Summary.{Summary}
 use Rattle.ds_base.specs.declared.verdict.Answer.{Answer}
 use Rattle.key_select.specs.Fates.{accepted_of, counts_of}
-use Rattle.pcap_reader.specs.Good.{good}
+use Rattle.key_select.specs.Wanted.{good_of}
 use Rattle.profiles.specs.Delays.{delays_of}
 use Rattle.profiles.specs.Put.{count_all}
 use Rattle.summary_spec.specs.Declaration.{Declared, Question}
@@ -24,7 +24,7 @@ use Rattle.window_grouper.specs.Sorted.{by_stamp}
 abbrev pub accepted_from : Declared → (capture : ℕ) → (files : List (List ℕ)) → List Summary
 accepted_from job capture [] = []
 accepted_from job capture (bytes ∷ files) =
-    accepted_of job capture (good bytes).records ++ accepted_from job (capture + 1) files
+    accepted_of job capture (good_of job capture bytes).records ++ accepted_from job (capture + 1) files
 
 -- the accepted summaries of all captures, in the order of their stamps
 abbrev pub accepted : Declared → (files : List (List ℕ)) → List Summary
@@ -38,7 +38,7 @@ groups job files = groups_of job.window (accepted job files)
 abbrev pub counts_from : Declared → (capture : ℕ) → (files : List (List ℕ)) → List Counts
 counts_from job capture [] = []
 counts_from job capture (bytes ∷ files) =
-    counts_of job capture (good bytes).records (good bytes).cut ∷ counts_from job (capture + 1) files
+    counts_of job capture (good_of job capture bytes).records (good_of job capture bytes).cut ∷ counts_from job (capture + 1) files
 
 -- ---- its lines
 
