@@ -9,11 +9,11 @@ use Rattle.summary_spec.specs.Declaration.{Declared}
 use Rattle.watermarks.specs.Least.{lesser, least_mark}
 use Rattle.run_law.specs.Laws.{IsRun, DoneIsWhole}
 use Rattle.run_law.specs.Links.{AreLawful, ItemRule, CountsRule, GroupRule, AnswerRule}
-use Rattle.run_law.specs.Nodes.{below, least_of_links, counts_taken, lines_by}
+use Rattle.run_law.specs.Nodes.{AreInOrder, below, least_of_links, counts_taken, lines_by, lines_due}
 use Rattle.run_law.specs.Sent.{Saying, of_firsts, bound_after, bound_behind, bound_in}
 use Rattle.run_law.specs.Shapes.{Shape}
 use Rattle.run_law.specs.Snapshot.{Link, Lists, Snapshot, AreDone, IsInStep, IsSettled}
-use Rattle.run_law.proofs.Answered.{ordered_taken, taken_ordered}
+use Rattle.run_law.proofs.Answered.{all_taken, ordered_taken, taken_ordered}
 use Rattle.run_law.proofs.Coming.{kept, answered_by}
 use Rattle.run_law.proofs.Counted.{row_counts, AreThere, lines_all, there_from}
 use Rattle.run_law.proofs.Lists.{in_front, of_below, front_trans}
@@ -31,20 +31,22 @@ none_after_end : (bound : Option ℕ) → bound_after bound (Some None) ≡ None
 none_after_end None = refl
 none_after_end (Some m) = refl
 
-ended : (bound : Option ℕ) (frames : List Frame) → IsIn Finish frames → bound_behind of_firsts bound frames ≡ None
-ended bound [] h = absurd h
-ended bound (f ∷ fs) (inl e) =
-    ap (λ (z : Frame). bound_behind of_firsts (bound_after bound (of_firsts z)) fs) (sym e)
-    ∙ ap (λ (b : Option ℕ). bound_behind of_firsts b fs) (none_after_end bound)
-    ∙ none_stays of_firsts fs
-ended bound (f ∷ fs) (inr l) = ended (bound_after bound (of_firsts f)) fs l
+-- the end leaves no mark
+pub ended : (says : Frame → Saying) (bound : Option ℕ) (frames : List Frame) → says Finish ≡ Some None → IsIn Finish frames → bound_behind says bound frames ≡ None
+ended says bound [] is h = absurd h
+ended says bound (f ∷ fs) is (inl e) =
+    ap (λ (z : Frame). bound_behind says (bound_after bound (says z)) fs) (sym e)
+    ∙ ap (λ (o : Saying). bound_behind says (bound_after bound o) fs) is
+    ∙ ap (λ (b : Option ℕ). bound_behind says b fs) (none_after_end bound)
+    ∙ none_stays says fs
+ended says bound (f ∷ fs) is (inr l) = ended says (bound_after bound (says f)) fs is l
 
-least_none : (f : ℕ → Option ℕ) (ks : List ℕ) → ((k : ℕ) → IsIn k ks → f k ≡ None) → least_mark (map f ks) ≡ None
+pub least_none : (f : ℕ → Option ℕ) (ks : List ℕ) → ((k : ℕ) → IsIn k ks → f k ≡ None) → least_mark (map f ks) ≡ None
 least_none f [] h = refl
 least_none f (k ∷ ks) h = ap (λ (m : Option ℕ). lesser m (least_mark (map f ks))) (h k (inl refl)) ∙ least_none f ks (λ j l. h j (inr l))
 
 pub all_ended : (n : ℕ) (taken : ℕ → List Frame) → ((i : ℕ) → i < n → IsIn Finish (taken i)) → least_of_links n taken ≡ None
-all_ended n taken h = least_none (λ i. bound_in of_firsts (taken i)) (below n) (λ i l. ended (Some 0) (taken i) (h i (of_below n i l)))
+all_ended n taken h = least_none (λ i. bound_in of_firsts (taken i)) (below n) (λ i l. ended of_firsts (Some 0) (taken i) refl (h i (of_below n i l)))
 
 -- ---- links
 
@@ -54,6 +56,40 @@ settled Own link step lawful end =
     let taken : link.taken ≡ link.put =
     whole_with_end Own link.taken link.put (front_trans link.taken link.sent link.put step.taken step.sent) lawful end in
     record { sent = sent; taken = taken ∙ sym sent }
+
+-- ---- the lines that are due once the ends came
+
+module _ (job : Declared) (files : List (List ℕ)) (shape : Shape) (start : List ℕ) (lists : Lists)
+    (run : IsRun job files shape) (snap : Snapshot job files shape start lists)
+    (counts_end : (p : ℕ) → p < shape.parsers → IsIn Finish (lists.counts p).taken)
+    (answers_end : (q : ℕ) → q < shape.processors → IsIn Finish (lists.answers q).taken) where
+  -- each capture has its row
+  row_there : (c : ℕ) → c < length job.captures → found job files shape start lists run snap c ≡ None → ⊥
+  row_there c less none =
+      let own = parser_of job files shape start lists run snap c less in
+      let p : ℕ = c % shape.parsers in
+      let end = stands (CountsRule job shape p) (lists.counts p).taken Finish (counts_lawful job files shape start lists run snap p own.0) (counts_end p own.0) in
+      let row = end.own c own.1 in
+      row_counts c row.0 (lists.counts p).taken (in_front (CountsRow c row.0) end.before (lists.counts p).taken end.front row.1) none
+
+  all_there : AreThere (counts_taken job shape (λ p. (lists.counts p).taken))
+  all_there =
+      there_from (found job files shape start lists run snap) 0 (length job.captures) (λ c low high. row_there c (omega (arith, high)))
+
+  pub due_is_report : (ordered : List Answer) → AreInOrder (all_taken job files shape start lists run snap) ordered
+      → lines_due job shape (λ p. (lists.counts p).taken) (λ q. (lists.answers q).taken) ordered ≡ report job files
+  due_is_report ordered h =
+      let none : merge_bound job files shape start lists run snap ≡ None = all_ended shape.processors (λ q. (lists.answers q).taken) answers_end in
+      let ks = counts_taken job shape (λ p. (lists.counts p).taken) in
+      let texts : List ℕ = all_texts job files shape start lists run snap in
+      let profile : List ℕ = profile_texts (names_of job) job.profile (groups job files) in
+      ap (λ (b : Option ℕ). lines_by job shape b (λ p. (lists.counts p).taken) (λ q. (lists.answers q).taken) ordered) none
+      ∙ lines_then_are job files shape start lists run snap ordered h none
+      ∙ ap (λ (t : List ℕ). texts ++ (profile ++ t))
+      (lines_all job (names_of job) 0 (length (groups job files)) 0 ks files (given job files shape start lists run snap) all_there)
+      ∙ sym (report_is job files shape start lists run snap)
+
+-- ---- all links
 
 module _ (job : Declared) (files : List (List ℕ)) (shape : Shape) (start : List ℕ) (lists : Lists)
     (run : IsRun job files shape) (snap : Snapshot job files shape start lists) (done : AreDone job shape start lists) where
@@ -71,33 +107,11 @@ module _ (job : Declared) (files : List (List ℕ)) (shape : Shape) (start : Lis
   answers_settled q hq =
       settled (AnswerRule job) (lists.answers q) (snap.answers_step q hq) (answered_by job files shape start lists run snap q hq).lawful (done.answers q hq)
 
-  -- each capture has its row
-  row_there : (c : ℕ) → c < length job.captures → found job files shape start lists run snap c ≡ None → ⊥
-  row_there c less none =
-      let own = parser_of job files shape start lists run snap c less in
-      let p : ℕ = c % shape.parsers in
-      let end = stands (CountsRule job shape p) (lists.counts p).taken Finish (counts_lawful job files shape start lists run snap p own.0) (done.counts p own.0) in
-      let row = end.own c own.1 in
-      row_counts c row.0 (lists.counts p).taken (in_front (CountsRow c row.0) end.before (lists.counts p).taken end.front row.1) none
-
-  all_there : AreThere (counts_taken job shape (λ p. (lists.counts p).taken))
-  all_there =
-      there_from (found job files shape start lists run snap) 0 (length job.captures) (λ c low high. row_there c (omega (arith, high)))
-
   pub written_whole : lists.written ≡ start ++ report job files
   written_whole =
-      let none : merge_bound job files shape start lists run snap ≡ None = all_ended shape.processors (λ q. (lists.answers q).taken) done.answers in
       let ordered : List Answer = ordered_taken job files shape start lists run snap in
       let h = taken_ordered job files shape start lists run snap in
-      let ks = counts_taken job shape (λ p. (lists.counts p).taken) in
-      let texts : List ℕ = all_texts job files shape start lists run snap in
-      let profile : List ℕ = profile_texts (names_of job) job.profile (groups job files) in
-      done.written ordered h
-      ∙ ap (λ (b : Option ℕ). start ++ lines_by job shape b (λ p. (lists.counts p).taken) (λ q. (lists.answers q).taken) ordered) none
-      ∙ ap (λ (t : List ℕ). start ++ t) (lines_then_are job files shape start lists run snap ordered h none
-      ∙ ap (λ (t : List ℕ). texts ++ (profile ++ t))
-      (lines_all job (names_of job) 0 (length (groups job files)) 0 ks files (given job files shape start lists run snap) all_there)
-      ∙ sym (report_is job files shape start lists run snap))
+      done.written ordered h ∙ ap (λ (t : List ℕ). start ++ t) (due_is_report job files shape start lists run snap done.counts done.answers ordered h)
 
 pub done_is_whole : DoneIsWhole
 done_is_whole job files shape start lists run snap done = record {

@@ -16,3 +16,4 @@ pub mod Joining
 pub mod Ended
 pub mod Rows
 pub mod Resting
+pub mod Quiet

@@ -29,7 +29,7 @@ use Rattle.run_law.proofs.Standing.{stands}
 
 -- ---- lists without repeats
 
-abbrev AreDifferent : {X : Type 0} → List X → Type 0
+abbrev pub AreDifferent : {X : Type 0} → List X → Type 0
 AreDifferent [] = Unit {0}
 AreDifferent (x ∷ xs) = (IsIn x xs → ⊥) × AreDifferent xs
 
@@ -78,7 +78,7 @@ range_up a zero k h = absurd h
 range_up a (suc n) k (inl e) = omega arith
 range_up a (suc n) k (inr l) = let r = range_up (a + 1) n k l in omega arith
 
-different_range : (test : ℕ → Bool) (a n : ℕ) → AreDifferent (filter test (range_with_len a n))
+pub different_range : (test : ℕ → Bool) (a n : ℕ) → AreDifferent (filter test (range_with_len a n))
 different_range test a zero = tt
 different_range test a (suc n) =
     ⊎_elim

@@ -10,7 +10,7 @@ use Rattle.run_law.specs.Shapes.{Shape, IsFront}
 use Rattle.run_law.specs.Snapshot.{IsInStep, empty_link, unread, file_of}
 
 -- nothing is a front of every list
-none_front : {X : Type 0} (xs : List X) → IsFront [] xs
+pub none_front : {X : Type 0} (xs : List X) → IsFront [] xs
 none_front xs = record { rest = xs; joined = refl }
 
 -- what was put, sent or taken: nothing

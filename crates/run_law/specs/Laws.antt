@@ -1,5 +1,5 @@
 -- What is true at every moment of a run, of every job, its files and every shape.
-use Rattle.std.specs.Prelude.{ℕ, ◌⊎◌, Some, ◌≡◌, ◌<◌, ◌≤◌, ◌+◌, ◌%◌, ◌==◌, List, ◌++◌, length, filter}
+use Rattle.std.specs.Prelude.{ℕ, ◌⊎◌, Some, None, [], ◌≡◌, ◌<◌, ◌≤◌, ◌+◌, ◌%◌, ◌==◌, List, ◌++◌, length, filter}
 use Rattle.central_report.specs.Report.{accepted, groups, report}
 use Rattle.ds_base.specs.Copies.{Copies}
 use Rattle.ds_base.specs.Fronts.{IsIn, upto}
@@ -12,7 +12,8 @@ use Rattle.watermarks.specs.Least.{under}
 use Rattle.run_law.specs.Nodes.{below, first_member, began, answer_of, answer_texts, answers_taken, least_of_captures, least_of_links, AreInOrder}
 use Rattle.run_law.specs.Sent.{groups_in}
 use Rattle.run_law.specs.Shapes.{Shape, IsShape, groups_of_shard, summaries_of_shard, dealt, IsFront}
-use Rattle.run_law.specs.Snapshot.{Link, Lists, Snapshot, AreDone, IsAtRest, IsSettled, at_start}
+use Rattle.run_law.specs.Wanted.{good_of}
+use Rattle.run_law.specs.Snapshot.{Link, Lists, Snapshot, AreDone, IsAtRest, IsSettled, at_start, file_of}
 
 -- a job, with a file for each of its captures, and a shape
 pub record IsRun (job : Declared) (files : List (List ℕ)) (shape : Shape) : Type 0 where
@@ -134,3 +135,15 @@ pub record RowsOfDone (job : Declared) (files : List (List ℕ)) (shape : Shape)
 abbrev pub RowsAreLawful : Type 0
 RowsAreLawful = (job : Declared) (files : List (List ℕ)) (shape : Shape) (start : List ℕ) (lists : Lists)
     → IsRun job files shape → Snapshot job files shape start lists → AreDone job shape start lists → RowsOfDone job files shape lists
+
+-- ---- runs that end
+
+-- no capture's file is malformed, and none has a record
+abbrev pub HasNoRecord : Declared → List (List ℕ) → Type 0
+HasNoRecord job files = (c : ℕ) → c < length job.captures → ((good_of job c (file_of files c)).bad ≡ None) × ((good_of job c (file_of files c)).records ≡ [])
+
+-- where no capture has a record there is a moment at which all is done
+abbrev pub RunWithoutRecordsEnds : Type 0
+RunWithoutRecordsEnds = (job : Declared) (files : List (List ℕ)) (shape : Shape) (start : List ℕ)
+    → IsRun job files shape → HasNoRecord job files
+    → (lists : Lists) × Snapshot job files shape start lists × AreDone job shape start lists

@@ -1,5 +1,5 @@
 //! The laws of a run: calls that do nothing.
-ghost use Rattle.run_law.specs.Laws.{AnswersToComeAreLater, DoneIsWhole, GroupsSentAreFront, NoGroupGains, NothingIsHeldBack, RowsAreLawful, StartIsSnapshot, WrittenIsFront};
+ghost use Rattle.run_law.specs.Laws.{AnswersToComeAreLater, DoneIsWhole, GroupsSentAreFront, NoGroupGains, NothingIsHeldBack, RowsAreLawful, RunWithoutRecordsEnds, StartIsSnapshot, WrittenIsFront};
 
 /// At every moment the groups that a grouper sent, over all its links in the order of their closing, are the first
 /// groups of its shard.
@@ -44,4 +44,10 @@ pub fn rows_of_done_links()
 /// The start of a run, with nothing read, put, sent, taken or written, is such a moment.
 pub fn start_is_snapshot()
     ensures { StartIsSnapshot }
+{}
+
+/// Where no capture has a record, and none is malformed, there is such a moment at which all is done. So what is
+/// proved of runs that are done is not proved of none.
+pub fn run_without_records_ends()
+    ensures { RunWithoutRecordsEnds }
 {}
