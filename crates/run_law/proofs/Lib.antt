@@ -17,3 +17,4 @@ pub mod Ended
 pub mod Rows
 pub mod Resting
 pub mod Quiet
+pub mod More

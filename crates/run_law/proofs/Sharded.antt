@@ -123,6 +123,40 @@ closed_same bound window xs ys hx hy same =
         ap (λ (k : List Summary). upto (is_closed p w) (groups_of w k)) (sym (parted_list (at_time p) l))
         ∙ closed_stay p w (upto (at_time p) l) (onward (at_time p) l) falls (onward_late p l falls h)
 
+-- ---- what came on lawful links
+
+pub item_of : (job : Declared) (shape : Shape) (p g : ℕ) (frames : List Frame) (s : Summary) → AreLawfulItems job shape p g frames → IsIn s (items_in frames) → IsItemOf job shape p g s
+item_of job shape p g frames s lawful h = (stands (ItemRule job shape p g) frames (Item s) lawful (item_frame s frames h)).own
+
+module _ (job : Declared) (shape : Shape) (g : ℕ) (taken : ℕ → List Frame) (lawful : (p : ℕ) → p < shape.parsers → AreLawfulItems job shape p g (taken p)) where
+  abbrev came_on : ℕ → List Summary
+  came_on p = items_in (taken p)
+
+  all_differ : (a n : ℕ) → ((p : ℕ) → IsIn p (range_with_len a n) → p < shape.parsers) → StampsDiffer (flat_map came_on (range_with_len a n))
+  all_differ a zero within = tt
+  all_differ a (suc n) within =
+      let here : a < shape.parsers = within a (inl refl) in
+      differ_joined (came_on a) (flat_map came_on (range_with_len (a + 1) n))
+      (link_differs (ItemRule job shape a g) [] (taken a) (lawful a here))
+      (all_differ (a + 1) n (λ p l. within p (inr l)))
+      (λ x y l r.
+      let from = of_flat came_on y (range_with_len (a + 1) n) r in
+      let other : from.item < shape.parsers = within from.item (inr from.there) in
+      let mine : x.at.capture % shape.parsers ≡ a = (item_of job shape a g (taken a) x (lawful a here) l).capture.1 in
+      let its : y.at.capture % shape.parsers ≡ from.item = (item_of job shape from.item g (taken from.item) y (lawful from.item other) from.is).capture.1 in
+      let up : a + 1 ≤ from.item = (range_low (a + 1) n from.item from.there) in
+      apart_captures x.at y.at (λ e. let moved : x.at.capture % shape.parsers ≡ y.at.capture % shape.parsers = ap (λ (c : ℕ). c % shape.parsers) e in
+      omega (arith, mine, its, up, moved)))
+    where
+      range_low : (a n k : ℕ) → IsIn k (range_with_len a n) → a ≤ k
+      range_low a zero k h = absurd h
+      range_low a (suc n) k (inl e) = omega arith
+      range_low a (suc n) k (inr l) = let r = range_low (a + 1) n k l in omega arith
+
+  -- the summaries that were taken stand in the order of their stamps
+  pub held_in_order : InStampOrder (summaries_taken shape taken)
+  held_in_order = in_order-by_stamp (flat_map came_on (below shape.parsers)) (all_differ 0 shape.parsers (λ p l. of_below shape.parsers p l))
+
 module _ (job : Declared) (files : List (List ℕ)) (shape : Shape) (start : List ℕ) (lists : Lists)
     (run : IsRun job files shape) (snap : Snapshot job files shape start lists) where
   -- ---- what groupers take
@@ -150,38 +184,14 @@ module _ (job : Declared) (files : List (List ℕ)) (shape : Shape) (start : Lis
       let first = (snap.parsers p hp).first c own is_read.front.rest in
       record { later = first.0; is = ap (λ (bytes : List ℕ). (good_of job c bytes).records) is_read.front.joined ∙ first.1 }
 
-  -- what came, of a lawful link
   item_own : (p g : ℕ) → p < shape.parsers → g < shape.groupers → (s : Summary) → IsIn s (items_in (lists.items p g).taken) → IsItemOf job shape p g s
-  item_own p g hp hg s h =
-      (stands (ItemRule job shape p g) (lists.items p g).taken (Item s) (items_lawful g hg p hp) (item_frame s (lists.items p g).taken h)).own
+  item_own p g hp hg s h = item_of job shape p g (lists.items p g).taken s (items_lawful g hg p hp) h
 
   abbrev came : ℕ → ℕ → List Summary
   came g p = items_in (lists.items p g).taken
 
-  all_differ : (g a n : ℕ) → g < shape.groupers → ((p : ℕ) → IsIn p (range_with_len a n) → p < shape.parsers) → StampsDiffer (flat_map (came g) (range_with_len a n))
-  all_differ g a zero hg within = tt
-  all_differ g a (suc n) hg within =
-      let here : a < shape.parsers = within a (inl refl) in
-      differ_joined (came g a) (flat_map (came g) (range_with_len (a + 1) n))
-      (link_differs (ItemRule job shape a g) [] (lists.items a g).taken (items_lawful g hg a here))
-      (all_differ g (a + 1) n hg (λ p l. within p (inr l)))
-      (λ x y l r.
-      let from = of_flat (came g) y (range_with_len (a + 1) n) r in
-      let other : from.item < shape.parsers = within from.item (inr from.there) in
-      let mine : x.at.capture % shape.parsers ≡ a = (item_own a g here hg x l).capture.1 in
-      let its : y.at.capture % shape.parsers ≡ from.item = (item_own from.item g other hg y from.is).capture.1 in
-      let up : a + 1 ≤ from.item = (range_low (a + 1) n from.item from.there) in
-      apart_captures x.at y.at (λ e. let moved : x.at.capture % shape.parsers ≡ y.at.capture % shape.parsers = ap (λ (c : ℕ). c % shape.parsers) e in
-      omega (arith, mine, its, up, moved)))
-    where
-      range_low : (a n k : ℕ) → IsIn k (range_with_len a n) → a ≤ k
-      range_low a zero k h = absurd h
-      range_low a (suc n) k (inl e) = omega arith
-      range_low a (suc n) k (inr l) = let r = range_low (a + 1) n k l in omega arith
-
   held_ordered : (g : ℕ) → g < shape.groupers → InStampOrder (summaries_taken shape (λ p. (lists.items p g).taken))
-  held_ordered g hg =
-      in_order-by_stamp (flat_map (came g) (below shape.parsers)) (all_differ g 0 shape.parsers hg (λ p l. of_below shape.parsers p l))
+  held_ordered g hg = held_in_order job shape g (λ p. (lists.items p g).taken) (items_lawful g hg)
 
   abbrev of_all : ℕ → List Summary
   of_all g = summaries_of_shard g shape.groupers (accepted job files)

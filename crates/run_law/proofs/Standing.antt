@@ -2,7 +2,7 @@
 use Rattle.std.proofs.Common.{ℕ, Bool, true, false, List, [], ◌∷◌, ◌++◌, ◌≡◌, ◌≢◌, ◌⊎◌, ◌≤◌, Option, Some, None, inl, inr, refl, sym, ap, subst, ◌∙◌, ⊎_elim, append_assoc}
 use Rattle.std.specs.Prelude.{◌==◌, if◌then◌else◌}
 use Rattle.std.specs.List.{AllByRecursion}
-use Rattle.std.proofs.lemmas.Bool.{eqb-true}
+use Rattle.std.proofs.lemmas.Bool.{cases_Bool, eqb-true}
 use Rattle.std.proofs.lemmas.List.{append-nil}
 use Rattle.ds_base.specs.Copies.{Copies}
 use Rattle.ds_base.specs.Fronts.{IsIn}
@@ -119,6 +119,49 @@ item_left_open Own before rest s h there =
     let permitted = permitted_in Own before rest (Item s) h (item_frame s rest there) in
     in_all (λ f. MayCome (of_items s.at.capture f) s.at.time) before
     (λ f l. permits_item f s (all_in (λ earlier. Permits earlier (Item s)) f before permitted l))
+
+-- a mark that comes behind frames is left open by them
+permits_mark : (f : Frame) (c mark : ℕ) → Permits f (Mark c mark) → MayCome (of_items c f) mark
+permits_mark (Item t) c mark h = tt
+permits_mark (Mark d earlier) c mark h = mark_permits (d == c) d c earlier mark refl h
+permits_mark (CaptureEnd d) c mark h = end_permits (d == c) d c mark refl h
+permits_mark (GroupHead first members key) c mark h = tt
+permits_mark (Member at vals) c mark h = tt
+permits_mark (GroupMark m) c mark h = tt
+permits_mark (AnswerRow a) c mark h = tt
+permits_mark (Profile row) c mark h = tt
+permits_mark (CountsRow d counts) c mark h = tt
+permits_mark Finish c mark h = absurd h
+
+-- the frame that says a mark of the capture
+said_mark : (c mark : ℕ) (f : Frame) → of_items c f ≡ Some (Some mark) → f ≡ Mark c mark
+said_mark c mark (Mark d m) h =
+    ⊎_elim
+    (λ (t : (d == c) ≡ true).
+    let said : Some (Some m) ≡ Some (Some mark) = rw t at h in
+    let same : m ≡ mark = cc in
+    ap (λ (k : ℕ). Mark k m) (eqb-true d c t) ∙ ap (λ (n : ℕ). Mark c n) same)
+    (λ (f : (d == c) ≡ false). absurd (let none : None ≡ Some (Some mark) = rw f at h in cc))
+    (cases_Bool (d == c))
+said_mark c mark (CaptureEnd d) h =
+    ⊎_elim
+    (λ (t : (d == c) ≡ true). absurd (let none : Some None ≡ Some (Some mark) = rw t at h in cc))
+    (λ (f : (d == c) ≡ false). absurd (let none : None ≡ Some (Some mark) = rw f at h in cc))
+    (cases_Bool (d == c))
+said_mark c mark (Item t) h = absurd (cc)
+said_mark c mark (GroupHead first members key) h = absurd (cc)
+said_mark c mark (Member at vals) h = absurd (cc)
+said_mark c mark (GroupMark m) h = absurd (cc)
+said_mark c mark (AnswerRow a) h = absurd (cc)
+said_mark c mark (Profile row) h = absurd (cc)
+said_mark c mark (CountsRow d counts) h = absurd (cc)
+said_mark c mark Finish h = absurd (cc)
+
+pub mark_left_open : (c : ℕ) (f : Frame) (mark : ℕ) (front : List Frame) → of_items c f ≡ Some (Some mark) → AllByRecursion (λ earlier. Permits earlier f) front
+    → IsLeftOpen (of_items c) front mark
+mark_left_open c f mark front is permitted =
+    in_all (λ z. MayCome (of_items c z) mark) front
+    (λ z l. permits_mark z c mark (subst (λ (w : Frame). Permits z w) (said_mark c mark f is) (all_in (λ earlier. Permits earlier f) z front permitted l)))
 
 -- ---- answers
 

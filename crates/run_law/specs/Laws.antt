@@ -9,7 +9,9 @@ use Rattle.ds_base.specs.declared.verdict.Answer.{Answer}
 use Rattle.summary_spec.specs.Declaration.{Declared}
 use Rattle.summary_spec.specs.Lawful.{IsLawful}
 use Rattle.watermarks.specs.Least.{under}
-use Rattle.run_law.specs.Nodes.{below, first_member, began, answer_of, answer_texts, answers_taken, least_of_captures, least_of_links, AreInOrder}
+use Rattle.node_frames.specs.declared.frame.Frame.{Frame}
+use Rattle.run_law.specs.Links.{AreLawfulItems}
+use Rattle.run_law.specs.Nodes.{below, first_member, began, answer_of, answer_texts, answers_taken, least_of_captures, least_of_links, AreInOrder, GrouperKeeps}
 use Rattle.run_law.specs.Sent.{groups_in}
 use Rattle.run_law.specs.Shapes.{Shape, IsShape, groups_of_shard, summaries_of_shard, dealt, IsFront}
 use Rattle.run_law.specs.Wanted.{good_of}
@@ -147,3 +149,15 @@ abbrev pub RunWithoutRecordsEnds : Type 0
 RunWithoutRecordsEnds = (job : Declared) (files : List (List ℕ)) (shape : Shape) (start : List ℕ)
     → IsRun job files shape → HasNoRecord job files
     → (lists : Lists) × Snapshot job files shape start lists × AreDone job shape start lists
+
+-- ---- as more comes
+
+-- on each link to the grouper more was taken, and all of it is lawful
+pub record TakesMore (job : Declared) (shape : Shape) (grouper : ℕ) (taken more : ℕ → List Frame) : Type 0 where
+  pub front : (p : ℕ) → p < shape.parsers → IsFront (taken p) (more p)
+  pub lawful : (p : ℕ) → p < shape.parsers → AreLawfulItems job shape p grouper (more p)
+
+-- the promise of a grouper stands as more frames are taken, whatever they are
+abbrev pub GrouperKeepsOn : Type 0
+GrouperKeepsOn = (job : Declared) (shape : Shape) (grouper : ℕ) (taken more put : ℕ → List Frame) → 0 < shape.parsers
+    → TakesMore job shape grouper taken more → GrouperKeeps job shape grouper taken put → GrouperKeeps job shape grouper more put
