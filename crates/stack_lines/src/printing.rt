@@ -97,8 +97,8 @@ fn print_lines<S: Source, O: Sink>(
     }
 }
 
-/// Prints the lines of all whole records of a source. Those before a malformed place, and before a failed
-/// read, are written before it is answered.
+/// Prints the lines of all whole records of a source. Those before a malformed place are written before it
+/// is answered.
 fn print_records<S: Source, O: Sink>(
     source: &mut S,
     reading: &mut CaptureReading,
