@@ -12,7 +12,7 @@ use Rattle.ds_base.specs.declared.capture.Counts.{Counts}
 use Rattle.key_select.specs.Fates.{accepted_of, counts_of}
 use Rattle.node_frames.specs.declared.frame.Frame.{Frame}
 use Rattle.node_frames.specs.declared.frame.Frame.TheVariants.{Item, Mark, CaptureEnd, GroupHead, Member, GroupMark, AnswerRow, Profile, CountsRow, Finish}
-use Rattle.run_law.specs.Wanted.{good_of}
+use Rattle.key_select.specs.Wanted.{good_of}
 use Rattle.summary_spec.specs.Declaration.{Declared}
 use Rattle.run_law.specs.Nodes.{capture_lines}
 use Rattle.run_law.specs.Sent.{counts_in}

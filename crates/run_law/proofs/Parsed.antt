@@ -13,7 +13,7 @@ use Rattle.key_select.proofs.Tallying.{accepted_parts}
 use Rattle.node_frames.specs.declared.frame.Frame.{Frame}
 use Rattle.node_frames.specs.declared.frame.Frame.TheVariants.{Item, Mark, CaptureEnd, GroupHead, Member, GroupMark, AnswerRow, Profile, CountsRow, Finish}
 use Rattle.pcap_reader.specs.Captured.{Captured}
-use Rattle.run_law.specs.Wanted.{good_of}
+use Rattle.key_select.specs.Wanted.{good_of}
 use Rattle.summary_spec.specs.Declaration.{Declared}
 use Rattle.run_law.specs.Links.{ItemRule}
 use Rattle.run_law.specs.Nodes.{Reading, IsWhole, ParserKeeps}

@@ -21,7 +21,7 @@ use Rattle.run_law.specs.Nodes.{Reading, IsWhole, ParserKeeps, GrouperKeeps, Pro
 use Rattle.run_law.specs.Sent.{item_in, items_in, of_items, bound_in}
 use Rattle.run_law.specs.Shapes.{Shape, IsCaptureOf, IsFront, of_capture}
 use Rattle.run_law.specs.Snapshot.{Link, Lists, Snapshot, IsInStep, AreDone, file_of}
-use Rattle.run_law.specs.Wanted.{good_of}
+use Rattle.key_select.specs.Wanted.{good_of}
 use Rattle.run_law.proofs.Ended.{ended, least_none, all_ended, due_is_report}
 use Rattle.run_law.proofs.Lists.{From, in_all, in_left, in_right, in_either, in_map, of_map, in_filter, of_filter, in_below, of_below, front_self}
 use Rattle.run_law.proofs.Rows.{AreDifferent, different_range}

@@ -11,7 +11,7 @@ use Rattle.ds_base.specs.declared.summary.Summary.{Summary}
 use Rattle.key_select.specs.Fates.{accepted_of}
 use Rattle.node_frames.specs.declared.frame.Frame.{Frame}
 use Rattle.node_frames.specs.declared.frame.Frame.TheVariants.{Item, Mark, CaptureEnd, GroupHead, Member, GroupMark, AnswerRow, Profile, CountsRow, Finish}
-use Rattle.run_law.specs.Wanted.{good_of}
+use Rattle.key_select.specs.Wanted.{good_of}
 use Rattle.summary_spec.specs.Declaration.{Declared}
 use Rattle.window_grouper.proofs.Stamps.{not_both_ways}
 use Rattle.run_law.specs.Laws.{IsRun, IsRowOfDone, RowsAreLawful, captures_of, accepted_between}

@@ -15,7 +15,7 @@ use Rattle.ds_base.proofs.Fronts.{same_front, in_order}
 use Rattle.key_select.specs.Fates.{accepted_of}
 use Rattle.node_frames.specs.declared.frame.Frame.{Frame}
 use Rattle.node_frames.specs.declared.frame.Frame.TheVariants.{Item}
-use Rattle.run_law.specs.Wanted.{good_of}
+use Rattle.key_select.specs.Wanted.{good_of}
 use Rattle.summary_spec.specs.Declaration.{Declared}
 use Rattle.watermarks.specs.Least.{under}
 use Rattle.watermarks.proofs.Lesser.{under_earlier}

@@ -2,7 +2,7 @@
 use Rattle.std.proofs.Common.{ℕ, List, [], refl, sym}
 use Rattle.std.proofs.lemmas.List.{append-nil}
 use Rattle.node_frames.specs.declared.frame.Frame.{Frame}
-use Rattle.run_law.specs.Wanted.{good_of}
+use Rattle.key_select.specs.Wanted.{good_of}
 use Rattle.summary_spec.specs.Declaration.{Declared}
 use Rattle.run_law.specs.Laws.{StartIsSnapshot}
 use Rattle.run_law.specs.Nodes.{ParserKeeps, GrouperKeeps, ProcessorKeeps, MergeKeeps, groups_closed, lines_due}

@@ -17,7 +17,7 @@ use Rattle.ds_base.specs.declared.verdict.Answer.{Answer}
 use Rattle.key_select.specs.Fates.{counts_of}
 use Rattle.node_frames.specs.declared.frame.Frame.{Frame}
 use Rattle.node_frames.specs.declared.frame.Frame.TheVariants.{Item, Mark, CaptureEnd, GroupHead, Member, GroupMark, AnswerRow, Profile, CountsRow, Finish}
-use Rattle.run_law.specs.Wanted.{good_of}
+use Rattle.key_select.specs.Wanted.{good_of}
 use Rattle.profiles.proofs.Orders.{in_any_order}
 use Rattle.summary_spec.specs.Declaration.{Declared}
 use Rattle.watermarks.specs.Least.{under}

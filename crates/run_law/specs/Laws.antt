@@ -14,7 +14,7 @@ use Rattle.run_law.specs.Links.{AreLawfulItems}
 use Rattle.run_law.specs.Nodes.{below, first_member, began, answer_of, answer_texts, answers_taken, least_of_captures, least_of_links, AreInOrder, GrouperKeeps}
 use Rattle.run_law.specs.Sent.{groups_in}
 use Rattle.run_law.specs.Shapes.{Shape, IsShape, groups_of_shard, summaries_of_shard, dealt, IsFront}
-use Rattle.run_law.specs.Wanted.{good_of}
+use Rattle.key_select.specs.Wanted.{good_of}
 use Rattle.run_law.specs.Snapshot.{Link, Lists, Snapshot, AreDone, IsAtRest, IsSettled, at_start, file_of}
 
 -- a job, with a file for each of its captures, and a shape

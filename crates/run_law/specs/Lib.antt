@@ -1,4 +1,3 @@
-pub mod Wanted
 pub mod Shapes
 pub mod Sent
 pub mod Links

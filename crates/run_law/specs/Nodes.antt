@@ -27,7 +27,7 @@ use Rattle.window_grouper.specs.Groups.{groups_of}
 use Rattle.window_grouper.specs.Sorted.{by_stamp}
 use Rattle.run_law.specs.Links.{AreLawfulItems, AreLawfulCounts, AreLawfulGroups, AreLawfulAnswers}
 use Rattle.run_law.specs.Sent.{items_in, answers_in, rows_in, counts_in, groups_in, of_items, of_firsts, bound_in}
-use Rattle.run_law.specs.Wanted.{good_of}
+use Rattle.key_select.specs.Wanted.{good_of, wanted_of}
 use Rattle.run_law.specs.Shapes.{Shape, IsCaptureOf, of_capture, summaries_of_shard, with_number, dealt, IsFront}
 
 -- the numbers below n
@@ -61,7 +61,7 @@ pub record IsMarkOf (job : Declared) (capture : ℕ) (records : List Captured) (
 pub record ParserKeeps (job : Declared) (shape : Shape) (parser : ℕ) (read : ℕ → Reading) (items : ℕ → List Frame) (counts : List Frame) : Type 0 where
   pub lawful : (g : ℕ) → g < shape.groupers → AreLawfulItems job shape parser g (items g)
   pub lawful_counts : AreLawfulCounts job shape parser counts
-  pub first : (c : ℕ) → IsCaptureOf (length job.captures) shape parser c → AreFirst (read c).bytes (read c).records
+  pub first : (c : ℕ) → IsCaptureOf (length job.captures) shape parser c → AreFirst (wanted_of job c) (read c).bytes (read c).records
   pub summaries : (g c : ℕ) → g < shape.groupers → IsCaptureOf (length job.captures) shape parser c
       → of_capture c (items_in (items g)) ≡ summaries_of_shard g shape.groupers (accepted_of job c (read c).records)
   pub marks : (g c mark : ℕ) → g < shape.groupers → IsIn (Mark c mark) (items g) → IsMarkOf job c (read c).records mark
