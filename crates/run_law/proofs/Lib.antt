@@ -18,3 +18,4 @@ pub mod Rows
 pub mod Resting
 pub mod Quiet
 pub mod More
+pub mod Arriving

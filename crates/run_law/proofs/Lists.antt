@@ -189,7 +189,7 @@ of_number {X} n x (e ∷ es) h =
     inr (of_number n x es later))
     (cases_Bool (e.0 == n))
 
-number-append : {X : Type 0} (n : ℕ) (es fs : List (ℕ × X)) → with_number n (es ++ fs) ≡ with_number n es ++ with_number n fs
+pub number-append : {X : Type 0} (n : ℕ) (es fs : List (ℕ × X)) → with_number n (es ++ fs) ≡ with_number n es ++ with_number n fs
 number-append n [] fs = refl
 number-append {X} n (e ∷ es) fs =
     ⊎_elim

@@ -32,7 +32,7 @@ use Rattle.run_law.proofs.Standing.{item_left_open, mark_left_open, lawful_front
 
 -- ---- bounds that do not fall
 
-bound-append : (says : Frame → Saying) (b : Option ℕ) (xs ys : List Frame) → bound_behind says b (xs ++ ys) ≡ bound_behind says (bound_behind says b xs) ys
+pub bound-append : (says : Frame → Saying) (b : Option ℕ) (xs ys : List Frame) → bound_behind says b (xs ++ ys) ≡ bound_behind says (bound_behind says b xs) ys
 bound-append says b [] ys = refl
 bound-append says b (x ∷ xs) ys = bound-append says (bound_after b (says x)) xs ys
 
@@ -45,7 +45,7 @@ after_rises (Some m) (Some None) t h pass = refl
 after_rises (Some m) (Some (Some v)) t h pass = let late : under (Some m) v ≡ false = h v refl in grind (arith, nat_tests)
 
 -- along frames each of whose marks is left open by those before it
-bound_rises : (Own : List Frame → Frame → Type 0) (says : Frame → Saying) (before rest : List Frame) (b : Option ℕ) (t : ℕ) → b ≡ bound_in says before
+pub bound_rises : (Own : List Frame → Frame → Type 0) (says : Frame → Saying) (before rest : List Frame) (b : Option ℕ) (t : ℕ) → b ≡ bound_in says before
     → AreLawfulBehind Own before rest
     → ((f : Frame) (mark : ℕ) (front : List Frame) → says f ≡ Some (Some mark) → AllByRecursion (λ earlier. Permits earlier f) front → IsLeftOpen says front mark)
     → under b t ≡ true → under (bound_behind says b rest) t ≡ true
@@ -73,7 +73,7 @@ under_both a b a' b' t f g h =
     under_joined (Some m) None t h k = h
     under_joined (Some m) (Some n) t h k = grind (arith, nat_tests)
 
-least_rises : (f h : ℕ → Option ℕ) (ks : List ℕ) (t : ℕ) → ((k : ℕ) → IsIn k ks → under (f k) t ≡ true → under (h k) t ≡ true)
+pub least_rises : (f h : ℕ → Option ℕ) (ks : List ℕ) (t : ℕ) → ((k : ℕ) → IsIn k ks → under (f k) t ≡ true → under (h k) t ≡ true)
     → under (least_mark (map f ks)) t ≡ true → under (least_mark (map h ks)) t ≡ true
 least_rises f h [] t each pass = refl
 least_rises f h (k ∷ ks) t each pass =
@@ -92,7 +92,7 @@ mark_rises (Some l) new m rises e =
     (λ (le : l ≤ m). (l, refl, le))
     (cases_lt m l)
 
-none_rises : (old new : Option ℕ) → ((t : ℕ) → under old t ≡ true → under new t ≡ true) → old ≡ None → new ≡ None
+pub none_rises : (old new : Option ℕ) → ((t : ℕ) → under old t ≡ true → under new t ≡ true) → old ≡ None → new ≡ None
 none_rises old None rises e = refl
 none_rises old (Some m) rises e =
     absurd (let l = mark_rises old (Some m) m rises refl in let is = l.1 in cc)

@@ -214,6 +214,37 @@ permits_head (Profile row) first members key h = tt
 permits_head (CountsRow c counts) first members key h = tt
 permits_head Finish first members key h = absurd h
 
+-- a mark of firsts that comes behind frames is left open by them
+permits_group_mark : (f : Frame) (mark : ℕ) → Permits f (GroupMark mark) → MayCome (of_firsts f) mark
+permits_group_mark (Item t) mark h = tt
+permits_group_mark (Mark c m) mark h = tt
+permits_group_mark (CaptureEnd c) mark h = tt
+permits_group_mark (GroupHead first members key) mark h = tt
+permits_group_mark (Member at vals) mark h = tt
+permits_group_mark (GroupMark m) mark h = h
+permits_group_mark (AnswerRow a) mark h = tt
+permits_group_mark (Profile row) mark h = absurd h
+permits_group_mark (CountsRow c counts) mark h = tt
+permits_group_mark Finish mark h = absurd h
+
+said_group_mark : (mark : ℕ) (f : Frame) → of_firsts f ≡ Some (Some mark) → f ≡ GroupMark mark
+said_group_mark mark (GroupMark m) h = let same : m ≡ mark = cc in ap (λ (n : ℕ). GroupMark n) same
+said_group_mark mark (Item t) h = absurd (cc)
+said_group_mark mark (Mark c m) h = absurd (cc)
+said_group_mark mark (CaptureEnd c) h = absurd (cc)
+said_group_mark mark (GroupHead first members key) h = absurd (cc)
+said_group_mark mark (Member at vals) h = absurd (cc)
+said_group_mark mark (AnswerRow a) h = absurd (cc)
+said_group_mark mark (Profile row) h = absurd (cc)
+said_group_mark mark (CountsRow c counts) h = absurd (cc)
+said_group_mark mark Finish h = absurd (cc)
+
+pub group_mark_left_open : (f : Frame) (mark : ℕ) (front : List Frame) → of_firsts f ≡ Some (Some mark) → AllByRecursion (λ earlier. Permits earlier f) front
+    → IsLeftOpen of_firsts front mark
+group_mark_left_open f mark front is permitted =
+    in_all (λ z. MayCome (of_firsts z) mark) front
+    (λ z l. permits_group_mark z mark (subst (λ (w : Frame). Permits z w) (said_group_mark mark f is) (all_in (λ earlier. Permits earlier f) z front permitted l)))
+
 -- the first of these members has the stamp
 abbrev IsLed : Stamp → List Summary → Type 0
 IsLed first [] = Unit {0}

@@ -1,5 +1,6 @@
 -- What is true at every moment of a run, of every job, its files and every shape.
 use Rattle.std.specs.Prelude.{ℕ, ◌⊎◌, Some, None, [], ◌≡◌, ◌<◌, ◌≤◌, ◌+◌, ◌%◌, ◌==◌, List, ◌++◌, length, filter}
+use Rattle.std.specs.List.{AllByRecursion}
 use Rattle.central_report.specs.Report.{accepted, groups, report}
 use Rattle.ds_base.specs.Copies.{Copies}
 use Rattle.ds_base.specs.Fronts.{IsIn, upto}
@@ -10,10 +11,10 @@ use Rattle.summary_spec.specs.Declaration.{Declared}
 use Rattle.summary_spec.specs.Lawful.{IsLawful}
 use Rattle.watermarks.specs.Least.{under}
 use Rattle.node_frames.specs.declared.frame.Frame.{Frame}
-use Rattle.run_law.specs.Links.{AreLawfulItems}
-use Rattle.run_law.specs.Nodes.{below, first_member, began, answer_of, answer_texts, answers_taken, least_of_captures, least_of_links, AreInOrder, GrouperKeeps}
+use Rattle.run_law.specs.Links.{AreLawfulItems, AreLawfulGroups}
+use Rattle.run_law.specs.Nodes.{below, first_member, began, answer_of, answer_texts, answers_taken, least_of_captures, least_of_links, AreInOrder, GrouperKeeps, ProcessorKeeps}
 use Rattle.run_law.specs.Sent.{groups_in}
-use Rattle.run_law.specs.Shapes.{Shape, IsShape, groups_of_shard, summaries_of_shard, dealt, IsFront}
+use Rattle.run_law.specs.Shapes.{Shape, IsShape, groups_of_shard, summaries_of_shard, with_number, dealt, IsFront}
 use Rattle.key_select.specs.Wanted.{good_of}
 use Rattle.run_law.specs.Snapshot.{Link, Lists, Snapshot, AreDone, IsAtRest, IsSettled, at_start, file_of}
 
@@ -161,3 +162,16 @@ pub record TakesMore (job : Declared) (shape : Shape) (grouper : ℕ) (taken mor
 abbrev pub GrouperKeepsOn : Type 0
 GrouperKeepsOn = (job : Declared) (shape : Shape) (grouper : ℕ) (taken more put : ℕ → List Frame) → 0 < shape.parsers
     → TakesMore job shape grouper taken more → GrouperKeeps job shape grouper taken put → GrouperKeeps job shape grouper more put
+
+-- on each link to the processor more was taken, and all of it is lawful; the groups that became whole are these, in the
+-- order in which they were taken, each with the number of its grouper
+pub record TakesMoreGroups (job : Declared) (shape : Shape) (taken more : ℕ → List Frame) (later : List (ℕ × Copies)) : Type 0 where
+  pub front : (g : ℕ) → g < shape.groupers → IsFront (taken g) (more g)
+  pub lawful : (g : ℕ) → g < shape.groupers → AreLawfulGroups job (more g)
+  pub of_groupers : AllByRecursion (λ e. e.0 < shape.groupers) later
+  pub groups : (g : ℕ) → g < shape.groupers → groups_in (more g) ≡ groups_in (taken g) ++ with_number g later
+
+-- the promise of a processor stands as more frames are taken, whatever they are
+abbrev pub ProcessorKeepsOn : Type 0
+ProcessorKeepsOn = (job : Declared) (shape : Shape) (taken more : ℕ → List Frame) (later : List (ℕ × Copies)) (put : List Frame)
+    → TakesMoreGroups job shape taken more later → ProcessorKeeps job shape taken put → ProcessorKeeps job shape more put

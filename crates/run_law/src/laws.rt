@@ -1,5 +1,5 @@
 //! The laws of a run: calls that do nothing.
-ghost use Rattle.run_law.specs.Laws.{AnswersToComeAreLater, DoneIsWhole, GrouperKeepsOn, GroupsSentAreFront, NoGroupGains, NothingIsHeldBack, RowsAreLawful, RunWithoutRecordsEnds, StartIsSnapshot, WrittenIsFront};
+ghost use Rattle.run_law.specs.Laws.{AnswersToComeAreLater, DoneIsWhole, GrouperKeepsOn, GroupsSentAreFront, NoGroupGains, NothingIsHeldBack, ProcessorKeepsOn, RowsAreLawful, RunWithoutRecordsEnds, StartIsSnapshot, WrittenIsFront};
 
 /// At every moment the groups that a grouper sent, over all its links in the order of their closing, are the first
 /// groups of its shard.
@@ -56,4 +56,10 @@ pub fn run_without_records_ends()
 /// a front of its closed groups, and no mark that it sent becomes wrong.
 pub fn grouper_keeps_on()
     ensures { GrouperKeepsOn }
+{}
+
+/// The promise of a processor stands as more frames are taken, whatever they are, if they are lawful: what it sent stays
+/// a front of its answers, and no mark that it sent becomes wrong.
+pub fn processor_keeps_on()
+    ensures { ProcessorKeepsOn }
 {}
