@@ -19,3 +19,4 @@ pub mod Resting
 pub mod Quiet
 pub mod More
 pub mod Arriving
+pub mod Going

@@ -99,7 +99,7 @@ none_rises old (Some m) rises e =
 
 -- ---- fronts by two tests
 
-upto_parts : {X : Type 0} (p q : X → Bool) (xs : List X) → ((x : X) → p x ≡ true → q x ≡ true) → upto q xs ≡ upto p xs ++ upto q (onward p xs)
+pub upto_parts : {X : Type 0} (p q : X → Bool) (xs : List X) → ((x : X) → p x ≡ true → q x ≡ true) → upto q xs ≡ upto p xs ++ upto q (onward p xs)
 upto_parts p q [] more = refl
 upto_parts {X} p q (x ∷ xs) more =
     ⊎_elim

@@ -59,20 +59,20 @@ ended_links n taken i less h = end_behind 0 (taken i) (none_below n i (λ k. bou
 
 -- ---- fronts
 
-upto_always : {X : Type 0} (p : X → Bool) (xs : List X) → ((x : X) → p x ≡ true) → upto p xs ≡ xs
+pub upto_always : {X : Type 0} (p : X → Bool) (xs : List X) → ((x : X) → p x ≡ true) → upto p xs ≡ xs
 upto_always p [] h = refl
 upto_always {X} p (x ∷ xs) h = rw (h x) (ap (λ (ys : List X). x ∷ ys) (upto_always p xs h))
 
-texts_front : (job : Declared) (xs ys : List Answer) → IsFront xs ys → IsFront (answer_texts job xs) (answer_texts job ys)
+pub texts_front : (job : Declared) (xs ys : List Answer) → IsFront xs ys → IsFront (answer_texts job xs) (answer_texts job ys)
 texts_front job xs ys f = record {
   rest = answer_texts job f.rest;
   joined = ap (answer_texts job) f.joined ∙ flat-append (answer_text (names_of job)) xs f.rest;
 }
 
-front_more : {X : Type 0} (xs ys more : List X) → IsFront xs ys → IsFront xs (ys ++ more)
+pub front_more : {X : Type 0} (xs ys more : List X) → IsFront xs ys → IsFront xs (ys ++ more)
 front_more xs ys more f = record { rest = f.rest ++ more; joined = ap (λ zs. zs ++ more) f.joined ∙ append_assoc xs f.rest more }
 
-front_behind : {X : Type 0} (before xs ys : List X) → IsFront xs ys → IsFront (before ++ xs) (before ++ ys)
+pub front_behind : {X : Type 0} (before xs ys : List X) → IsFront xs ys → IsFront (before ++ xs) (before ++ ys)
 front_behind before xs ys f = record { rest = f.rest; joined = ap (λ zs. before ++ zs) f.joined ∙ sym (append_assoc before xs f.rest) }
 
 always_closed : (window : ℕ) (x : Copies) → is_closed (under None) window x ≡ true

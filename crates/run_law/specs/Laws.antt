@@ -11,8 +11,8 @@ use Rattle.summary_spec.specs.Declaration.{Declared}
 use Rattle.summary_spec.specs.Lawful.{IsLawful}
 use Rattle.watermarks.specs.Least.{under}
 use Rattle.node_frames.specs.declared.frame.Frame.{Frame}
-use Rattle.run_law.specs.Links.{AreLawfulItems, AreLawfulGroups}
-use Rattle.run_law.specs.Nodes.{below, first_member, began, answer_of, answer_texts, answers_taken, least_of_captures, least_of_links, AreInOrder, GrouperKeeps, ProcessorKeeps}
+use Rattle.run_law.specs.Links.{AreLawfulItems, AreLawfulGroups, AreLawfulAnswers}
+use Rattle.run_law.specs.Nodes.{below, first_member, began, answer_of, answer_texts, answers_taken, least_of_captures, least_of_links, AreInOrder, GrouperKeeps, ProcessorKeeps, MergeKeeps}
 use Rattle.run_law.specs.Sent.{groups_in}
 use Rattle.run_law.specs.Shapes.{Shape, IsShape, groups_of_shard, summaries_of_shard, with_number, dealt, IsFront}
 use Rattle.key_select.specs.Wanted.{good_of}
@@ -175,3 +175,14 @@ pub record TakesMoreGroups (job : Declared) (shape : Shape) (taken more : ℕ �
 abbrev pub ProcessorKeepsOn : Type 0
 ProcessorKeepsOn = (job : Declared) (shape : Shape) (taken more : ℕ → List Frame) (later : List (ℕ × Copies)) (put : List Frame)
     → TakesMoreGroups job shape taken more later → ProcessorKeeps job shape taken put → ProcessorKeeps job shape more put
+
+-- on each link to the merge more was taken, and the answers' links are lawful
+pub record MergeTakesMore (job : Declared) (shape : Shape) (counts more_counts taken more : ℕ → List Frame) : Type 0 where
+  pub counts_front : (p : ℕ) → p < shape.parsers → IsFront (counts p) (more_counts p)
+  pub front : (q : ℕ) → q < shape.processors → IsFront (taken q) (more q)
+  pub lawful : (q : ℕ) → q < shape.processors → AreLawfulAnswers job (more q)
+
+-- the promise of the merge stands as more frames are taken, whatever they are
+abbrev pub MergeKeepsOn : Type 0
+MergeKeepsOn = (job : Declared) (shape : Shape) (counts more_counts taken more : ℕ → List Frame) (start written : List ℕ) → 0 < shape.parsers
+    → MergeTakesMore job shape counts more_counts taken more → MergeKeeps job shape counts taken start written → MergeKeeps job shape more_counts more start written

@@ -1,5 +1,5 @@
 //! The laws of a run: calls that do nothing.
-ghost use Rattle.run_law.specs.Laws.{AnswersToComeAreLater, DoneIsWhole, GrouperKeepsOn, GroupsSentAreFront, NoGroupGains, NothingIsHeldBack, ProcessorKeepsOn, RowsAreLawful, RunWithoutRecordsEnds, StartIsSnapshot, WrittenIsFront};
+ghost use Rattle.run_law.specs.Laws.{AnswersToComeAreLater, DoneIsWhole, GrouperKeepsOn, GroupsSentAreFront, MergeKeepsOn, NoGroupGains, NothingIsHeldBack, ProcessorKeepsOn, RowsAreLawful, RunWithoutRecordsEnds, StartIsSnapshot, WrittenIsFront};
 
 /// At every moment the groups that a grouper sent, over all its links in the order of their closing, are the first
 /// groups of its shard.
@@ -62,4 +62,10 @@ pub fn grouper_keeps_on()
 /// a front of its answers, and no mark that it sent becomes wrong.
 pub fn processor_keeps_on()
     ensures { ProcessorKeepsOn }
+{}
+
+/// The promise of the merge stands as more frames are taken, whatever they are, if they are lawful: what was written
+/// stays a front of the lines that may be written.
+pub fn merge_keeps_on()
+    ensures { MergeKeepsOn }
 {}
