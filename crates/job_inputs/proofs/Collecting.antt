@@ -8,6 +8,7 @@ use Rattle.ds_base.specs.Outside.{FolderSeen, SourceSeen, file_named}
 use Rattle.ds_base.specs.declared.capture.Counts.{Counts}
 use Rattle.ds_base.specs.declared.summary.Summary.{Summary}
 use Rattle.key_select.specs.Fates.{accepted_of, counts_of}
+use Rattle.key_select.specs.Wanted.{good_of}
 use Rattle.pcap_reader.specs.Good.{good}
 use Rattle.summary_spec.specs.Declaration.{Declared}
 use Rattle.job_inputs.specs.Captures.{AreFiles, AreSound, AreSoundBefore, AreThere, GathersCaptures, StopsCaptures}
@@ -21,26 +22,26 @@ use Rattle.job_inputs.specs.Faults.{fault_at_reading}
 -- ---- one file more
 
 accepted_more : (job : Declared) (capture : ℕ) (files : List (List ℕ)) (bytes : List ℕ)
-    → accepted_from job capture (files ++ bytes ∷ []) ≡ accepted_from job capture files ++ accepted_of job (capture + length files) (good bytes).records
-accepted_more job capture [] bytes = append-nil (accepted_of job capture (good bytes).records) ∙ rw add-zero refl
+    → accepted_from job capture (files ++ bytes ∷ []) ≡ accepted_from job capture files ++ accepted_of job (capture + length files) (good_of job (capture + length files) bytes).records
+accepted_more job capture [] bytes = append-nil (accepted_of job capture (good_of job capture bytes).records) ∙ rw add-zero refl
 accepted_more job capture (file ∷ files) bytes =
-    let here = accepted_of job capture (good file).records in
+    let here = accepted_of job capture (good_of job capture file).records in
     let e : capture + 1 + length files ≡ capture + suc (length files) = omega arith in
     ap (λ ss. here ++ ss) (accepted_more job (capture + 1) files bytes)
-    ∙ ap (λ n. here ++ (accepted_from job (capture + 1) files ++ accepted_of job n (good bytes).records)) e
-    ∙ sym (append_assoc here (accepted_from job (capture + 1) files) (accepted_of job (capture + suc (length files)) (good bytes).records))
+    ∙ ap (λ n. here ++ (accepted_from job (capture + 1) files ++ accepted_of job n (good_of job n bytes).records)) e
+    ∙ sym (append_assoc here (accepted_from job (capture + 1) files) (accepted_of job (capture + suc (length files)) (good_of job (capture + suc (length files)) bytes).records))
 
 counts_more : (job : Declared) (capture : ℕ) (files : List (List ℕ)) (bytes : List ℕ)
     → counts_from job capture (files ++ bytes ∷ [])
-    ≡ counts_from job capture files ++ counts_of job (capture + length files) (good bytes).records (good bytes).cut ∷ []
+    ≡ counts_from job capture files ++ counts_of job (capture + length files) (good_of job (capture + length files) bytes).records (good_of job (capture + length files) bytes).cut ∷ []
 counts_more job capture [] bytes = rw add-zero refl
 counts_more job capture (file ∷ files) bytes =
-    let here = counts_of job capture (good file).records (good file).cut in
+    let here = counts_of job capture (good_of job capture file).records (good_of job capture file).cut in
     let e : capture + 1 + length files ≡ capture + suc (length files) = omega arith in
     ap (λ cs. here ∷ cs) (counts_more job (capture + 1) files bytes)
-    ∙ ap (λ n. here ∷ (counts_from job (capture + 1) files ++ counts_of job n (good bytes).records (good bytes).cut ∷ [])) e
+    ∙ ap (λ n. here ∷ (counts_from job (capture + 1) files ++ counts_of job n (good_of job n bytes).records (good_of job n bytes).cut ∷ [])) e
 
-sound_more : (files : List (List ℕ)) (bytes : List ℕ) → AreSound files → (good bytes).bad ≡ None → AreSound (files ++ bytes ∷ [])
+sound_more : (files : List (List ℕ)) (bytes : List ℕ) → AreSound files → (good None bytes).bad ≡ None → AreSound (files ++ bytes ∷ [])
 sound_more [] bytes h one = (one, tt)
 sound_more (file ∷ files) bytes h one = (h.0, sound_more files bytes h.1 one)
 
@@ -79,11 +80,11 @@ gathers_more job names first before after list longer earlier counts capture nam
       given = h.given ++ bytes ∷ [];
       as_many = length-append h.given (bytes ∷ []) ∙ ap (λ n. n + 1) h.as_many ∙ sym (length-append names (name ∷ []));
       sound = sound_more h.given bytes h.sound all.sound;
-      accepted = all.accepted ∙ ap (λ ss. ss ++ accepted_of job capture (good bytes).records) h.accepted
-          ∙ ap (λ n. accepted_from job 0 h.given ++ accepted_of job n (good bytes).records) (sym number) ∙ sym (accepted_more job 0 h.given bytes);
+      accepted = all.accepted ∙ ap (λ ss. ss ++ accepted_of job capture (good_of job capture bytes).records) h.accepted
+          ∙ ap (λ n. accepted_from job 0 h.given ++ accepted_of job n (good_of job n bytes).records) (sym number) ∙ sym (accepted_more job 0 h.given bytes);
       counted = next.counted ∙ ap (λ cs. cs ++ next.fared ∷ []) h.counted
           ∙ ap (λ c. counts_from job 0 h.given ++ c ∷ []) all.counts
-          ∙ ap (λ n. counts_from job 0 h.given ++ counts_of job n (good bytes).records (good bytes).cut ∷ []) (sym number)
+          ∙ ap (λ n. counts_from job 0 h.given ++ counts_of job n (good_of job n bytes).records (good_of job n bytes).cut ∷ []) (sym number)
           ∙ sym (counts_more job 0 h.given bytes);
       files = λ told.
           let f = opened.1 told in

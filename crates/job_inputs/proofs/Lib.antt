@@ -1,5 +1,6 @@
 pub mod JobCaptures
 pub mod Missing
 pub mod Opened
+pub mod Records
 pub mod Collecting
 pub mod Filling

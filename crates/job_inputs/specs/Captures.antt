@@ -21,9 +21,9 @@ AreFiles folder [] (bytes ∷ files) = ⊥
 AreFiles folder (name ∷ names) [] = ⊥
 AreFiles folder (name ∷ names) (bytes ∷ files) = (file_named folder.files name ≡ Some bytes) × AreFiles folder names files
 
--- no capture is malformed
+-- no capture is malformed, whichever interfaces are wanted
 abbrev pub AreSound : List (List ℕ) → Type 0
-AreSound files = AllByRecursion (λ bytes. (good bytes).bad ≡ None) files
+AreSound files = AllByRecursion (λ bytes. (good None bytes).bad ≡ None) files
 
 -- the captures before this one are there and not malformed
 abbrev pub AreSoundBefore : FolderSeen → (names : List (List ℕ)) → (capture : ℕ) → Type 0

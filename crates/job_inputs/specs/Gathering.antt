@@ -10,6 +10,7 @@ use Rattle.input_files.specs.declared.fault.CaptureFault.TheVariants.{Malformed,
 use Rattle.key_select.specs.declared.tally.Tally.{Tally}
 use Rattle.key_select.specs.Fates.{accepted_of, counts_of}
 use Rattle.key_select.specs.Tally.{Tallies}
+use Rattle.key_select.specs.Wanted.{wanted_of, good_of}
 use Rattle.pcap_reader.specs.Captured.{Captured}
 use Rattle.pcap_reader.specs.Format.{bad_at}
 use Rattle.pcap_reader.specs.Good.{good}
@@ -27,23 +28,23 @@ pub record IsReadWhole (job : Declared) (capture : ℕ) (before after : SourceSe
   pub faults : after.faults ≡ before.faults
   pub waiting : IsWaiting reading.reader
   pub given : List ℕ
-  pub read : HasRead reading after given (good given).records
-  pub collects : Collects job capture tally start list (good given).records
+  pub read : HasRead (wanted_of job capture) reading after given (good_of job capture given).records
+  pub collects : Collects job capture tally start list (good_of job capture given).records
   pub whole : IsTrue before.told → before.whole ≡ given
 
 -- Why a capture was not read to its end: its first malformed place, a failed read, or no memory. Before and after
 -- are the failures of its source, or those of the folder that takes it back.
 abbrev pub StopsRead : SourceSeen → (before after : ℕ) → CaptureFault → Type 0
-StopsRead source before after (Malformed at what) = (after ≡ before) × (IsTrue source.told → (good source.whole).bad ≡ Some (bad_at at what))
+StopsRead source before after (Malformed at what) = (after ≡ before) × (IsTrue source.told → (good None source.whole).bad ≡ Some (bad_at at what))
 StopsRead source before after Unread = Rose before after
 StopsRead source before after OutOfMemory = after ≡ before
 
 -- What was gathered of a whole capture file that is not malformed: after `start` the list has the accepted
 -- summaries, and the counts say how the records fared.
 pub record IsGathered (job : Declared) (capture : ℕ) (start list : List Summary) (fared : Counts) (bytes : List ℕ) : Type 0 where
-  pub sound : (good bytes).bad ≡ None
-  pub accepted : list ≡ start ++ accepted_of job capture (good bytes).records
-  pub counts : fared ≡ counts_of job capture (good bytes).records (good bytes).cut
+  pub sound : (good None bytes).bad ≡ None
+  pub accepted : list ≡ start ++ accepted_of job capture (good_of job capture bytes).records
+  pub counts : fared ≡ counts_of job capture (good_of job capture bytes).records (good_of job capture bytes).cut
 
 -- What was gathered is that of what the source gave, and where it tells, that is the whole file. Before and
 -- after are the failures of the source, or those of the folder that takes it back.

@@ -4,6 +4,7 @@ ghost use Rattle.std.specs.Prelude.{◌≡◌, ◌<◌, ◌∷◌, ◌++◌, ◌
 ghost use Rattle.ds_base.specs.Outside.{IsFresh, SourceStays};
 ghost use Rattle.ds_base.specs.declared.summary.Summary.{Summary};
 ghost use Rattle.input_files.specs.Reading.{HasRead, records_read};
+ghost use Rattle.key_select.specs.Wanted.{wanted_of};
 ghost use Rattle.key_select.specs.Tally.{capture_of, records_taken};
 ghost use Rattle.pcap_reader.specs.Captured.{Captured};
 ghost use Rattle.pcap_reader.specs.Lent.{captured, IsLawful};
@@ -12,7 +13,7 @@ ghost use Rattle.job_inputs.specs.Gathering.{Collects, IsReadWhole, StopsRead, G
 
 use ds_base::{Counts, OutOfMemory, Source, SummaryList};
 use input_files::{CaptureFault, CaptureReading, Piece};
-use key_select::Tally;
+use key_select::{Tally, wanted_of};
 use pcap_reader::RecordRef;
 use std::alloc::Global;
 use summary_spec::Job;
@@ -36,7 +37,7 @@ pub(crate) fn gather_capture<S: Source>(
         (GathersAll (declared_of job.now) capture (S.seen source.old) (S.seen source.old).faults (S.seen source.new).faults accepted.old.items accepted.new.items)
         (StopsRead (S.seen source.old) (S.seen source.old).faults (S.seen source.new).faults) }
 {
-    let Ok(mut reading) = CaptureReading::new(alloc, PIECE) else {
+    let Ok(mut reading) = CaptureReading::new(alloc, wanted_of(job, capture), PIECE) else {
         return Err(CaptureFault::OutOfMemory);
     };
     let mut tally = Tally::new(job, capture);
@@ -58,7 +59,7 @@ fn gather_records<S: Source>(
     tally: &mut Tally,
     accepted: &mut SummaryList,
 ) -> Result<(), CaptureFault>
-    requires unread { HasRead reading.old (S.seen source.old) [] [] }
+    requires unread { HasRead (wanted_of (declared_of job.now) (capture_of tally.old)) reading.old (S.seen source.old) [] [] }
     requires given { records_taken tally.old ≡ records_read reading.old }
     requires named { capture_of tally.old < length job.now.names.captures.items }
     requires untaken { Collects (declared_of job.now) (capture_of tally.old) tally.old accepted.old.items accepted.old.items [] }

@@ -1,6 +1,7 @@
 use Rattle.std.proofs.Common.{ℕ, List, ◌≡◌}
 use Rattle.ds_base.specs.Outside.{SourceStays}
 use Rattle.input_files.specs.Reading.{HasRead, records_read, work_left}
+use Rattle.key_select.specs.Wanted.{wanted_of}
 use Rattle.key_select.specs.Tally.{capture_of, records_taken}
 use Rattle.pcap_reader.specs.Captured.{Captured}
 use Rattle.summary_spec.specs.Job.{declared_of}
@@ -12,7 +13,7 @@ abbrev pub invariant-records : goal.invariant-records
 invariant-records g l = record {
   stays : SourceStays (g.S.Source.seen l.fn.source) (g.S.Source.seen l.source);
   faults : (g.S.Source.seen l.source).faults ≡ (g.S.Source.seen l.fn.source).faults;
-  taken : (bytes : List ℕ) × (given : List Captured) × HasRead l.reading (g.S.Source.seen l.source) bytes given
+  taken : (bytes : List ℕ) × (given : List Captured) × HasRead (wanted_of (declared_of l.job) (capture_of l.fn.tally)) l.reading (g.S.Source.seen l.source) bytes given
       × Collects (declared_of l.job) (capture_of l.fn.tally) l.tally l.fn.accepted.items l.accepted.items given;
   given : records_taken l.tally ≡ records_read l.reading;
   capture : capture_of l.tally ≡ capture_of l.fn.tally;
