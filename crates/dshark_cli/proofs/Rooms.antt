@@ -47,7 +47,7 @@ same_bytes a b found x y =
 -- a capture that is not malformed has no malformed place
 sound_capture : (folder : FolderSeen) (name : List ℕ) (at : ℕ) (what : PcapFault) → HasSound folder name → IsMalformed folder name at what → ⊥
 sound_capture folder name at what sound bad =
-    let both : Some (bad_at at what) ≡ None = sym bad.2 ∙ ap (λ bytes. (good bytes).bad) (same_bytes bad.0 sound.0 (file_named folder.files name) bad.1 sound.1) ∙ sound.2 in
+    let both : Some (bad_at at what) ≡ None = sym bad.2 ∙ ap (λ bytes. (good None bytes).bad) (same_bytes bad.0 sound.0 (file_named folder.files name) bad.1 sound.1) ∙ sound.2 in
     cc
 
 -- a job that is accepted is not refused

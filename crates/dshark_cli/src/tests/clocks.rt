@@ -139,7 +139,7 @@ fn clocks_out_of_their_limits_are_refused(rt: HostRuntime) -> Result<(), Fail> {
             "captures.offset[1]: limit 3600000000001",
         ),
         ("1", ",\"offset\":0", "captures[1]: stray"),
-        ("3", "", "version[0]: limit 3"),
+        ("4", "", "version[0]: limit 4"),
     ] {
         let job = job(alloc, version, "0", "", second)?;
         let left = run_over(&rt, alloc, "central j", &[("j", job.as_slice())], CALM)?;

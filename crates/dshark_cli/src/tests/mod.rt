@@ -7,5 +7,6 @@ mod clocks;
 mod count;
 mod faults;
 mod harness;
+mod pcapng;
 mod reports;
 mod stack;
