@@ -1,0 +1,54 @@
+-- Frames are put: the end stays the last on each link.
+use Rattle.std.proofs.Common.{◌≡◌, ◌≢◌, ◌<◌, ◌≤◌, ℕ, ◌⊎◌, ⊎_elim, false, List, [], ◌∷◌, ◌++◌, length, slice_get, Some, ap₂, get_or, set, sym, ap, ◌∙◌, subst, arith, append_assoc}
+use Rattle.std.proofs.lemmas.List.{get_or-set_other, get_or-set_same, get_or_default, length-set}
+use Rattle.std.proofs.lemmas.Option.{get_or_from_slice_get}
+use Rattle.node_frames.specs.declared.frame.Frame.{Frame}
+use Rattle.credit_link.specs.Frames.{has_finish, FinishIsLast}
+use Rattle.credit_link.specs.Ends.{TxSeen}
+use Rattle.credit_link.proofs.Listed.{finish_stays_last}
+use Rattle.shuffle_poll.specs.Lanes.{put_on}
+use Rattle.shuffle_poll.specs.Shuffles.{lane_at, ShuffleHolds}
+
+pub before_or_not : (k n : ℕ) → (k < n) ⊎ (n ≤ k)
+before_or_not k n = grind arith
+
+-- one frame more on a lane
+one_more : (offered queue more : List Frame) (frame : Frame) → has_finish (offered ++ queue) ≡ false → more ≡ queue ++ frame ∷ [] → FinishIsLast (offered ++ more)
+one_more offered queue more frame going on =
+    subst (λ (fs : List Frame). FinishIsLast fs) (append_assoc offered queue (frame ∷ []) ∙ ap (λ q. offered ++ q) (sym on)) (finish_stays_last (offered ++ queue) frame going)
+
+pub put_all_holds : (links : List TxSeen) (queues queues' : List (List Frame)) (count : ℕ) (frame : Frame) → ShuffleHolds links queues → length queues' ≡ length queues
+    → ((k : ℕ) → k < count → get_or queues' k [] ≡ get_or queues k [] ++ frame ∷ []) → ((k : ℕ) → count ≤ k → get_or queues' k [] ≡ get_or queues k [])
+    → ((k : ℕ) (d : TxSeen) → k < count → has_finish (put_on (lane_at links queues k d)) ≡ false) → ShuffleHolds links queues'
+put_all_holds links queues queues' count frame holds long put others going = record {
+  as_many = long ∙ holds.as_many;
+  few = holds.few;
+  last = λ k d there.
+      ⊎_elim (λ (before : k < count). one_more (get_or links k d).offered (get_or queues k []) (get_or queues' k []) frame (going k d before) (put k before))
+      (λ (behind : count ≤ k). subst (λ (q : List Frame). FinishIsLast ((get_or links k d).offered ++ q)) (sym (others k behind)) (holds.last k d there))
+      (before_or_not k count);
+}
+
+same_or_not : (k i : ℕ) → (k ≡ i) ⊎ (k ≢ i)
+same_or_not k i = grind arith
+
+pub put_holds : (links : List TxSeen) (queues queues' : List (List Frame)) (i : ℕ) (frame : Frame) → ShuffleHolds links queues → i < length links
+    → queues' ≡ set queues i (get_or queues i [] ++ frame ∷ []) → ((d : TxSeen) → has_finish (put_on (lane_at links queues i d)) ≡ false) → ShuffleHolds links queues'
+put_holds links queues queues' i frame holds there put going = record {
+  as_many = ap (λ (l : List (List Frame)). length l) put ∙ length-set queues i (get_or queues i [] ++ frame ∷ []) ∙ holds.as_many;
+  few = holds.few;
+  last = λ k d inside.
+      ⊎_elim (λ (e : k ≡ i).
+      let here : get_or queues' i [] ≡ get_or queues i [] ++ frame ∷ [] = ap (λ l. get_or l i []) put ∙ get_or-set_same queues i (get_or queues i [] ++ frame ∷ []) [] (omega (arith, there, holds.as_many)) in
+      subst (λ j. FinishIsLast (put_on (lane_at links queues' j d))) (sym e) (one_more (get_or links i d).offered (get_or queues i []) (get_or queues' i []) frame (going d) here))
+      (λ (other : k ≢ i).
+      let same : get_or queues' k [] ≡ get_or queues k [] = ap (λ l. get_or l k []) put ∙ get_or-set_other queues i k (get_or queues i [] ++ frame ∷ []) [] other in
+      subst (λ (q : List Frame). FinishIsLast ((get_or links k d).offered ++ q)) (sym same) (holds.last k d inside))
+      (same_or_not k i);
+}
+
+-- a lane by its link and its queue
+pub same_lane : (links : List TxSeen) (queues : List (List Frame)) (i : ℕ) (d tx : TxSeen) (queue : List Frame) → slice_get links i ≡ Some tx → i < length queues → queue ≡ get_or queues i queue
+    → lane_at links queues i d ≡ record { tx = tx; queue = queue }
+same_lane links queues i d tx queue link there waits =
+    ap₂ (λ (t : TxSeen) (q : List Frame). record { tx = t; queue = q }) (get_or_from_slice_get links i tx d link) (get_or_default queues i [] queue there ∙ sym waits)

@@ -1,0 +1,4 @@
+pub mod Lanes
+pub mod Needs
+pub mod Polling
+pub mod Shuffles

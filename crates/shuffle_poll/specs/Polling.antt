@@ -1,0 +1,44 @@
+-- What one poll does to a lane.
+use Rattle.std.specs.Prelude.{ℕ, ◌≡◌, ◌≢◌, ◌≤◌, ◌<◌, ◌+◌, ◌++◌, ◌⊎◌, IsTrue, Some, None, List, [], length, replicate}
+use Rattle.ds_base.specs.Pipes.{PipeSeen, AnsweredZero}
+use Rattle.credit_link.specs.declared.link_bad.LinkBad.{LinkBad}
+use Rattle.credit_link.specs.Ends.{TxSeen, IsReady}
+use Rattle.credit_link.specs.Pumping.{TxFails}
+use Rattle.shuffle_poll.specs.declared.needs.Passed.{Passed}
+use Rattle.shuffle_poll.specs.declared.needs.Need.TheVariants.{Nothing, Credit, Room}
+use Rattle.shuffle_poll.specs.Lanes.{LaneSeen, put_on}
+
+-- a pipe of the link after a poll in which n bytes went through its end
+pub record EndPolled (before after : PipeSeen) (n : ℕ) : Type 0 where
+  pub told : after.told ≡ before.told
+  pub faults : after.faults ≡ before.faults
+  pub sure : before.sure ≤ after.sure + n
+
+-- A poll without a fault: bytes went into the data pipe and credits came back, and frames that waited were
+-- offered. Where nothing moved, each pipe with something to move answered 0, and a link on which a frame
+-- waits is not ready.
+pub record LanePolls (before after : LaneSeen) (cut : ℕ) (answer : Passed) : Type 0 where
+  pub all_put : put_on after ≡ put_on before
+  pub fewer : length after.queue ≤ length before.queue
+  pub sent : List ℕ
+  pub paid : ℕ
+  pub total : answer.moved ≡ length sent + paid
+  pub most : (length sent ≤ cut) × (paid ≤ cut)
+  pub sent_bytes : IsTrue before.tx.forth.told → after.tx.forth.bytes ≡ before.tx.forth.bytes ++ sent
+  pub paid_bytes : IsTrue before.tx.back.told → after.tx.back.bytes ≡ before.tx.back.bytes ++ replicate paid 1
+  pub forth : EndPolled before.tx.forth after.tx.forth (length sent)
+  pub back : EndPolled before.tx.back after.tx.back paid
+  pub kept : (after.tx.credits ≡ before.tx.credits) × (after.tx.forth_name ≡ before.tx.forth_name) × (after.tx.back_name ≡ before.tx.back_name) × (after.tx.fault ≡ None)
+  pub data_zero : answer.moved ≡ 0 → 0 < cut → 0 < length after.tx.left → AnsweredZero before.tx.forth after.tx.forth
+  pub credit_zero : answer.moved ≡ 0 → 0 < cut → 0 < after.tx.held → AnsweredZero before.tx.back after.tx.back
+  pub unready : after.queue ≢ [] → ¬ IsReady after.tx
+  pub nothing : (answer.need ≡ Nothing → after.queue ≡ []) × (after.queue ≡ [] → answer.need ≡ Nothing)
+  pub credit : answer.need ≡ Credit → (paid ≡ 0) × (after.tx.held ≡ after.tx.credits) × (0 < cut → AnsweredZero before.tx.back after.tx.back)
+  pub room : answer.need ≡ Room → (paid ≡ 0 → after.tx.held ≡ after.tx.credits → 0 < answer.moved) × (0 < cut → (0 < answer.moved) ⊎ AnsweredZero before.tx.forth after.tx.forth)
+
+-- a poll met a fault, which the link kept from before, or which a pump met now
+pub record LaneFails (before after : LaneSeen) (cut : ℕ) (bad : LinkBad) : Type 0 where
+  pub fault : after.tx.fault ≡ Some bad
+  pub how :
+      ((before.tx.fault ≡ Some bad) × (after.tx.forth ≡ before.tx.forth) × (after.tx.back ≡ before.tx.back))
+      ⊎ ((mid : TxSeen) × (mid.forth ≡ before.tx.forth) × (mid.back ≡ before.tx.back) × TxFails mid after.tx cut bad)
