@@ -23,11 +23,11 @@ use Rattle.run_law.proofs.Written.{merge_bound, counts_lawful, found, given, all
 
 -- ---- no mark
 
-none_stays : (says : Frame → Saying) (frames : List Frame) → bound_behind says None frames ≡ None
+pub none_stays : (says : Frame → Saying) (frames : List Frame) → bound_behind says None frames ≡ None
 none_stays says [] = refl
 none_stays says (f ∷ fs) = none_stays says fs
 
-none_after_end : (bound : Option ℕ) → bound_after bound (Some None) ≡ None
+pub none_after_end : (bound : Option ℕ) → bound_after bound (Some None) ≡ None
 none_after_end None = refl
 none_after_end (Some m) = refl
 

@@ -16,6 +16,7 @@ pub mod Joining
 pub mod Ended
 pub mod Rows
 pub mod Resting
+pub mod Marked
 pub mod Quiet
 pub mod More
 pub mod Arriving

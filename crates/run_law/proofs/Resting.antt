@@ -11,7 +11,7 @@ use Rattle.ds_base.proofs.Fronts.{parted}
 use Rattle.summary_spec.specs.Declaration.{Declared}
 use Rattle.watermarks.specs.Least.{lesser, least_mark, under}
 use Rattle.watermarks.proofs.Lesser.{under_earlier}
-use Rattle.run_law.specs.Laws.{IsRun, IsPassed, AnswersToComeAreLater, NothingIsHeldBack, answers_due}
+use Rattle.run_law.specs.Laws.{IsRun, IsPassed, HasPutEnds, IsPassedByAll, IsAnswered, AnswersToComeAreLater, NothingIsHeldBack, answers_due}
 use Rattle.run_law.specs.Nodes.{below, began, answer_of, answer_texts, answers_taken, least_of_links, AreInOrder, lines_by}
 use Rattle.run_law.specs.Sent.{answers_in, of_firsts, bound_in, IsLeftOpen}
 use Rattle.run_law.specs.Shapes.{Shape}
@@ -19,6 +19,7 @@ use Rattle.run_law.specs.Snapshot.{Lists, Snapshot, IsAtRest}
 use Rattle.run_law.proofs.Answered.{all_answers, answers_ordered, fronts_same}
 use Rattle.run_law.proofs.Bounds.{not_under, under_below, none_below}
 use Rattle.run_law.proofs.Coming.{answer_came, goes}
+use Rattle.run_law.proofs.Ended.{ended}
 use Rattle.run_law.proofs.Ordered.{time_after}
 use Rattle.run_law.proofs.Lists.{all_in, in_map, in_flat, in_below, of_below}
 
@@ -52,15 +53,15 @@ under_both None b t h k = k
 under_both (Some m) None t h k = h
 under_both (Some m) (Some n) t h k = grind (arith, nat_tests)
 
-under_each : (f : ℕ → Option ℕ) (ks : List ℕ) (t : ℕ) → ((k : ℕ) → IsIn k ks → under (f k) t ≡ true) → under (least_mark (map f ks)) t ≡ true
+pub under_each : (f : ℕ → Option ℕ) (ks : List ℕ) (t : ℕ) → ((k : ℕ) → IsIn k ks → under (f k) t ≡ true) → under (least_mark (map f ks)) t ≡ true
 under_each f [] t h = refl
 under_each f (k ∷ ks) t h = under_both (f k) (least_mark (map f ks)) t (h k (inl refl)) (under_each f ks t (λ j l. h j (inr l)))
 
 -- a least mark of marks is there
-least_there : (f : ℕ → Option ℕ) (n : ℕ) (k mark : ℕ) → k < n → f k ≡ Some mark → least_mark (map f (below n)) ≡ None → ⊥
+pub least_there : (f : ℕ → Option ℕ) (n : ℕ) (k mark : ℕ) → k < n → f k ≡ Some mark → least_mark (map f (below n)) ≡ None → ⊥
 least_there f n k mark less e none = let no : f k ≡ None = none_below n k f less none in cc
 
-some_mark : (bound : Option ℕ) → (bound ≡ None → ⊥) → (m : ℕ) × (bound ≡ Some m)
+pub some_mark : (bound : Option ℕ) → (bound ≡ None → ⊥) → (m : ℕ) × (bound ≡ Some m)
 some_mark None h = absurd (h refl)
 some_mark (Some m) h = (m, refl)
 
@@ -90,40 +91,53 @@ module _ (job : Declared) (files : List (List ℕ)) (shape : Shape) (start : Lis
       inr (inl (below_other bound a.first.time (began x) (passes_in (λ b. under bound b.first.time) a ordered due) late)))
       (taken_or_late x h)
 
-  module _ (rest : IsAtRest job shape start lists) where
-    -- the bound of each processor is above a group that is passed
-    processor_bound : (q : ℕ) → q < shape.processors → (x : Copies) → ((g : ℕ) → g < shape.groupers → IsPassed job shape lists g x)
-        → (m : ℕ) × (bound_in of_firsts (lists.answers q).taken ≡ Some m) × (under (Some m) (began x) ≡ true)
-    processor_bound q hq x passed =
-        let marks : (g : ℕ) → (hg : g < shape.groupers) → bound_in of_firsts (lists.groups g q).taken ≡ Some ((passed g hg).least - job.window) =
-        λ g hg. ap (bound_in of_firsts) (rest.groups_taken g q hg hq) ∙ (rest.groupers g hg).marks q (passed g hg).least hq (passed g hg).is in
-        let f : ℕ → Option ℕ = λ g. bound_in of_firsts (lists.groups g q).taken in
-        let there = some_mark (least_of_links shape.groupers (λ g. (lists.groups g q).taken))
-        (least_there f shape.groupers 0 ((passed 0 run.shape_is.groupers).least - job.window) run.shape_is.groupers (marks 0 run.shape_is.groupers)) in
-        let each : (g : ℕ) → IsIn g (below shape.groupers) → under (f g) (began x) ≡ true =
-        λ g l. mark_over (f g) (passed g (of_below shape.groupers g l)).least job.window (began x) (marks g (of_below shape.groupers g l)) (passed g (of_below shape.groupers g l)).over in
-        let under_all : under (least_of_links shape.groupers (λ g. (lists.groups g q).taken)) (began x) ≡ true = under_each f (below shape.groupers) (began x) each in (
-          there.0,
-          ap (bound_in of_firsts) (rest.answers_taken q hq) ∙ (rest.processors q hq).marks there.0 there.1,
-          subst (λ (b : Option ℕ). under b (began x) ≡ true) there.1 under_all,
-        )
+  module _ (rest : IsAtRest job shape start lists) (x : Copies) (passed : IsPassedByAll job shape lists x) where
+    abbrev grouper_bound : (q g : ℕ) → Option ℕ
+    grouper_bound q g = bound_in of_firsts (lists.groups g q).taken
+
+    -- the bound of a grouper that the marks have passed
+    passed_bound : (q g : ℕ) → q < shape.processors → g < shape.groupers → (at : IsPassed job shape lists g x)
+        → grouper_bound q g ≡ Some (at.least - job.window)
+    passed_bound q g hq hg at = ap (bound_in of_firsts) (rest.groups_taken g q hg hq) ∙ (rest.groupers g hg).marks q at.least hq at.is
+
+    -- the bound of each grouper is above the group
+    above : (q g : ℕ) → q < shape.processors → g < shape.groupers → under (grouper_bound q g) (began x) ≡ true
+    above q g hq hg =
+        ⊎_elim
+        (λ (at : IsPassed job shape lists g x). mark_over (grouper_bound q g) at.least job.window (began x) (passed_bound q g hq hg at) at.over)
+        (λ (ends : HasPutEnds shape lists g).
+        let none : grouper_bound q g ≡ None = ap (bound_in of_firsts) (rest.groups_taken g q hg hq) ∙ ended of_firsts (Some 0) (lists.groups g q).put refl (ends q hq) in
+        subst (λ (b : Option ℕ). under b (began x) ≡ true) (sym none) refl)
+        (passed.each g hg)
       where
         mark_over : (bound : Option ℕ) (least window t : ℕ) → bound ≡ Some (least - window) → t + window < least → under bound t ≡ true
         mark_over bound least window t e over =
             let less : t < least - window = omega arith in
             subst (λ (b : Option ℕ). under b t ≡ true) (sym e) (lt-ltb t (least - window) less)
 
-    held_nothing : (ordered : List Answer) → AreInOrder (answers_taken shape (λ q. (lists.answers q).taken)) ordered → (x : Copies) → IsIn x (groups job files)
-        → ((g : ℕ) → g < shape.groupers → IsPassed job shape lists g x)
-        → IsIn (answer_of job x) (answers_due shape lists ordered) × (lists.written ≡ start ++ answer_texts job (answers_due shape lists ordered))
-    held_nothing ordered h x there passed =
+    -- the bound of each processor is a mark above the group
+    processor_bound : (q : ℕ) → q < shape.processors → (m : ℕ) × (bound_in of_firsts (lists.answers q).taken ≡ Some m) × (under (Some m) (began x) ≡ true)
+    processor_bound q hq =
+        let f : ℕ → Option ℕ = grouper_bound q in
+        let there = some_mark (least_mark (map f (below shape.groupers)))
+        (least_there f shape.groupers passed.one (passed.passed.least - job.window) passed.grouper (passed_bound q passed.one hq passed.grouper passed.passed)) in
+        let under_all : under (least_mark (map f (below shape.groupers))) (began x) ≡ true =
+        under_each f (below shape.groupers) (began x) (λ g l. above q g hq (of_below shape.groupers g l)) in (
+          there.0,
+          ap (bound_in of_firsts) (rest.answers_taken q hq) ∙ (rest.processors q hq).marks there.0 there.1,
+          subst (λ (b : Option ℕ). under b (began x) ≡ true) there.1 under_all,
+        )
+
+    held_nothing : (ordered : List Answer) → AreInOrder (answers_taken shape (λ q. (lists.answers q).taken)) ordered → IsIn x (groups job files)
+        → IsAnswered job shape start lists ordered x
+    held_nothing ordered h there =
         let f : ℕ → Option ℕ = λ q. bound_in of_firsts (lists.answers q).taken in
         let bound : Option ℕ = least_of_links shape.processors (λ q. (lists.answers q).taken) in
         let each : (q : ℕ) → IsIn q (below shape.processors) → under (f q) (began x) ≡ true =
-        λ q l. let b = processor_bound q (of_below shape.processors q l) x passed in
+        λ q l. let b = processor_bound q (of_below shape.processors q l) in
         subst (λ (m : Option ℕ). under m (began x) ≡ true) (sym b.1) b.2 in
         let pass : under bound (began x) ≡ true = under_each f (below shape.processors) (began x) each in
-        let first = processor_bound 0 run.shape_is.processors x passed in
+        let first = processor_bound 0 run.shape_is.processors in
         let mark = some_mark bound (least_there f shape.processors 0 first.0 run.shape_is.processors first.1) in
         let all : List Answer = all_answers job files shape start lists run snap in (
           subst (λ as'. IsIn (answer_of job x) as') (sym (fronts_same job files shape start lists run snap ordered h))
@@ -138,4 +152,4 @@ answers_to_come_are_later job files shape start lists run snap ordered h a x due
 
 pub nothing_is_held_back : NothingIsHeldBack
 nothing_is_held_back job files shape start lists run snap rest ordered h x there passed =
-    held_nothing job files shape start lists run snap rest ordered h x there passed
+    held_nothing job files shape start lists run snap rest x passed ordered h there

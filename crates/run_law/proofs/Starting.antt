@@ -1,10 +1,10 @@
 -- The start of a run.
-use Rattle.std.proofs.Common.{ℕ, List, [], refl, sym}
+use Rattle.std.proofs.Common.{ℕ, List, [], refl, sym, arith}
 use Rattle.std.proofs.lemmas.List.{append-nil}
 use Rattle.node_frames.specs.declared.frame.Frame.{Frame}
 use Rattle.key_select.specs.Wanted.{good_of}
 use Rattle.summary_spec.specs.Declaration.{Declared}
-use Rattle.run_law.specs.Laws.{StartIsSnapshot}
+use Rattle.run_law.specs.Laws.{StartIsMarked, StartIsSnapshot}
 use Rattle.run_law.specs.Nodes.{ParserKeeps, GrouperKeeps, ProcessorKeeps, MergeKeeps, groups_closed, lines_due}
 use Rattle.run_law.specs.Shapes.{Shape, IsFront}
 use Rattle.run_law.specs.Snapshot.{IsInStep, empty_link, unread, file_of}
@@ -74,4 +74,11 @@ start_is_snapshot job files shape start run = record {
   groupers = λ g less h. grouper_starts job shape g;
   processors = λ q less h. processor_starts job shape;
   merge = λ h k. merge_starts job shape start;
+}
+
+pub start_is_marked : StartIsMarked
+start_is_marked job shape start p = record {
+  within = λ c own. omega arith;
+  few = λ c own. omega arith;
+  last = λ g c less own on. refl;
 }

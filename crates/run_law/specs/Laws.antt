@@ -9,10 +9,12 @@ use Rattle.ds_base.specs.declared.summary.Summary.{Summary}
 use Rattle.ds_base.specs.declared.verdict.Answer.{Answer}
 use Rattle.summary_spec.specs.Declaration.{Declared}
 use Rattle.summary_spec.specs.Lawful.{IsLawful}
+use Rattle.key_select.specs.Late.{mark_of}
 use Rattle.watermarks.specs.Least.{under}
 use Rattle.node_frames.specs.declared.frame.Frame.{Frame}
+use Rattle.node_frames.specs.declared.frame.Frame.TheVariants.{CaptureEnd, Finish}
 use Rattle.run_law.specs.Links.{AreLawfulItems, AreLawfulGroups, AreLawfulAnswers}
-use Rattle.run_law.specs.Nodes.{below, first_member, began, answer_of, answer_texts, answers_taken, least_of_captures, least_of_links, AreInOrder, GrouperKeeps, ProcessorKeeps, MergeKeeps}
+use Rattle.run_law.specs.Nodes.{below, first_member, began, answer_of, answer_texts, answers_taken, least_of_captures, least_of_links, AreInOrder, but_last, ParserMarks, GrouperKeeps, ProcessorKeeps, MergeKeeps}
 use Rattle.run_law.specs.Sent.{groups_in}
 use Rattle.run_law.specs.Shapes.{Shape, IsShape, groups_of_shard, summaries_of_shard, with_number, dealt, IsFront}
 use Rattle.key_select.specs.Wanted.{good_of}
@@ -59,6 +61,11 @@ abbrev pub StartIsSnapshot : Type 0
 StartIsSnapshot = (job : Declared) (files : List (List ℕ)) (shape : Shape) (start : List ℕ)
     → IsRun job files shape → Snapshot job files shape start (at_start start)
 
+-- at this moment no mark is behind the records
+abbrev pub StartIsMarked : Type 0
+StartIsMarked = (job : Declared) (shape : Shape) (start : List ℕ) (parser : ℕ)
+    → ParserMarks job shape parser (λ c. 0) (at_start start).read (λ g. ((at_start start).items parser g).put)
+
 -- the summary is of the group's key, not before its first member, and within the window of that
 pub record MayJoin (window : ℕ) (x : Copies) (s : Summary) : Type 0 where
   pub key : s.key ≡ x.key
@@ -90,14 +97,53 @@ pub record IsPassed (job : Declared) (shape : Shape) (lists : Lists) (grouper : 
   pub is : least_of_captures job shape (λ p. (lists.items p grouper).taken) ≡ Some least
   pub over : began x + job.window < least
 
--- where nothing is held back, the answer of each group that the marks have passed at every grouper is among those that
--- were written
+-- the end was put on each of the grouper's links
+abbrev pub HasPutEnds : Shape → Lists → (grouper : ℕ) → Type 0
+HasPutEnds shape lists grouper = (q : ℕ) → q < shape.processors → IsIn Finish (lists.groups grouper q).put
+
+-- the marks have passed the group at each grouper that goes on, and one does
+pub record IsPassedByAll (job : Declared) (shape : Shape) (lists : Lists) (x : Copies) : Type 0 where
+  pub one : ℕ
+  pub grouper : one < shape.groupers
+  pub passed : IsPassed job shape lists one x
+  pub each : (g : ℕ) → g < shape.groupers → IsPassed job shape lists g x ⊎ HasPutEnds shape lists g
+
+-- the answer of the group is among those that may be written, and exactly these are written
+abbrev pub IsAnswered : Declared → Shape → (start : List ℕ) → Lists → List Answer → Copies → Type 0
+IsAnswered job shape start lists ordered x = IsIn (answer_of job x) (answers_due shape lists ordered)
+    × (lists.written ≡ start ++ answer_texts job (answers_due shape lists ordered))
+
+-- where nothing is held back, the answer of each group that the marks have passed is among those that were written
 abbrev pub NothingIsHeldBack : Type 0
 NothingIsHeldBack = (job : Declared) (files : List (List ℕ)) (shape : Shape) (start : List ℕ) (lists : Lists)
     → IsRun job files shape → Snapshot job files shape start lists → IsAtRest job shape start lists
     → (ordered : List Answer) → AreInOrder (answers_taken shape (λ q. (lists.answers q).taken)) ordered
-    → (x : Copies) → IsIn x (groups job files) → ((g : ℕ) → g < shape.groupers → IsPassed job shape lists g x)
-    → IsIn (answer_of job x) (answers_due shape lists ordered) × (lists.written ≡ start ++ answer_texts job (answers_due shape lists ordered))
+    → (x : Copies) → IsIn x (groups job files) → IsPassedByAll job shape lists x → IsAnswered job shape start lists ordered x
+
+-- every frame of parsers was taken by the groupers, and the last marks are those of all records but the last few
+pub record AreMarksTaken (job : Declared) (shape : Shape) (lists : Lists) (behind : ℕ → ℕ) : Type 0 where
+  pub parsers : (p : ℕ) → p < shape.parsers → ParserMarks job shape p behind lists.read (λ g. (lists.items p g).put)
+  pub taken : (p g : ℕ) → p < shape.parsers → g < shape.groupers → (lists.items p g).taken ≡ (lists.items p g).put
+
+-- the end of the capture was not put for the grouper
+abbrev pub GoesOn : Shape → Lists → (grouper capture : ℕ) → Type 0
+GoesOn shape lists grouper capture = IsIn (CaptureEnd capture) (lists.items (capture % shape.parsers) grouper).put → ⊥
+
+-- a capture goes on, and in each that goes on the newest time of all records taken up but the last few, less the skew,
+-- is past the group and its window
+pub record IsLeftBehind (job : Declared) (shape : Shape) (lists : Lists) (behind : ℕ → ℕ) (x : Copies) : Type 0 where
+  pub one : ℕ
+  pub capture : one < length job.captures
+  pub goes_on : (g : ℕ) → g < shape.groupers → GoesOn shape lists g one
+  pub over : (g c : ℕ) → g < shape.groupers → c < length job.captures → GoesOn shape lists g c
+      → began x + job.window < mark_of job c (but_last (behind c) (lists.read c).records)
+
+-- where nothing is held back, the answer of each group that the records taken up have left behind was written
+abbrev pub LinesFollowRecords : Type 0
+LinesFollowRecords = (job : Declared) (files : List (List ℕ)) (shape : Shape) (start : List ℕ) (lists : Lists) (behind : ℕ → ℕ)
+    → IsRun job files shape → Snapshot job files shape start lists → IsAtRest job shape start lists → AreMarksTaken job shape lists behind
+    → (ordered : List Answer) → AreInOrder (answers_taken shape (λ q. (lists.answers q).taken)) ordered
+    → (x : Copies) → IsIn x (groups job files) → IsLeftBehind job shape lists behind x → IsAnswered job shape start lists ordered x
 
 -- the report was written, and every link is settled
 pub record HasEndedWhole (job : Declared) (files : List (List ℕ)) (shape : Shape) (start : List ℕ) (lists : Lists) : Type 0 where

@@ -1,6 +1,6 @@
 -- What each node promises of what it took and what it put on its links, whatever its turns were. Frames that it
 -- put are all that it gave out for a link, whether they left already or wait.
-use Rattle.std.specs.Prelude.{ℕ, ◌≡◌, ◌≤◌, ◌<◌, ◌+◌, ◌-◌, ◌%◌, Bool, true, false, List, [], ◌∷◌, ◌++◌, Option, Some, None, map, length}
+use Rattle.std.specs.Prelude.{ℕ, ◌≡◌, ◌≤◌, ◌<◌, ◌+◌, ◌-◌, ◌%◌, Bool, true, false, List, [], ◌∷◌, ◌++◌, Option, Some, None, map, length, take}
 use Rattle.std.specs.List.{AllByRecursion, flat_map, range_with_len}
 use Rattle.std.specs.List.Sorted.{IsPermutation}
 use Rattle.answer_text.specs.Lines.{answer_text, capture_text, end_text}
@@ -68,6 +68,18 @@ pub record ParserKeeps (job : Declared) (shape : Shape) (parser : ℕ) (read : �
   pub ends : (g c : ℕ) → g < shape.groupers → IsIn (CaptureEnd c) (items g) → IsWhole job c (read c)
   pub rows : (c : ℕ) (k : Counts) → IsIn (CountsRow c k) counts
       → IsWhole job c (read c) × (k ≡ counts_of job c (read c).records (good_of job c (read c).bytes).cut)
+
+-- the records taken up, but for the last few
+abbrev pub but_last : ℕ → List Captured → List Captured
+but_last few records = take (length records - few) records
+
+-- After a turn the last mark of each capture, on each link where it goes on, is that of all records taken up but the
+-- last `behind`, which are at most 32. A capture of which no mark was put counts as one whose last mark is 0.
+pub record ParserMarks (job : Declared) (shape : Shape) (parser : ℕ) (behind : ℕ → ℕ) (read : ℕ → Reading) (items : ℕ → List Frame) : Type 0 where
+  pub within : (c : ℕ) → IsCaptureOf (length job.captures) shape parser c → behind c ≤ length (read c).records
+  pub few : (c : ℕ) → IsCaptureOf (length job.captures) shape parser c → behind c ≤ 32
+  pub last : (g c : ℕ) → g < shape.groupers → IsCaptureOf (length job.captures) shape parser c → (IsIn (CaptureEnd c) (items g) → ⊥)
+      → bound_in (of_items c) (items g) ≡ Some (mark_of job c (but_last (behind c) (read c).records))
 
 -- ---- grouper
 

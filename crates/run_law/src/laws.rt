@@ -1,5 +1,5 @@
 //! The laws of a run: calls that do nothing.
-ghost use Rattle.run_law.specs.Laws.{AnswersToComeAreLater, DoneIsWhole, GrouperKeepsOn, GroupsSentAreFront, MergeKeepsOn, NoGroupGains, NothingIsHeldBack, ProcessorKeepsOn, RowsAreLawful, RunWithoutRecordsEnds, StartIsSnapshot, WrittenIsFront};
+ghost use Rattle.run_law.specs.Laws.{AnswersToComeAreLater, DoneIsWhole, GrouperKeepsOn, GroupsSentAreFront, LinesFollowRecords, MergeKeepsOn, NoGroupGains, NothingIsHeldBack, ProcessorKeepsOn, RowsAreLawful, RunWithoutRecordsEnds, StartIsMarked, StartIsSnapshot, WrittenIsFront};
 
 /// At every moment the groups that a grouper sent, over all its links in the order of their closing, are the first
 /// groups of its shard.
@@ -24,9 +24,16 @@ pub fn answers_to_come_are_later()
 {}
 
 /// Where every frame of groupers and processors was taken, and no grouper, processor or merge holds anything back, the
-/// lines of all groups that the marks have passed at every grouper are written.
+/// lines of all groups are written that the marks have passed at each grouper that goes on.
 pub fn nothing_is_held_back()
     ensures { NothingIsHeldBack }
+{}
+
+/// Where moreover every frame of parsers was taken, the lines of all groups are written that lie behind the newest
+/// times of the captures that go on, of all records taken up but the last 32 at most of each, by more than its skew
+/// and the window.
+pub fn lines_follow_records()
+    ensures { LinesFollowRecords }
 {}
 
 /// Where the end of every link was taken and the merge has written all its lines, the report was written, and
@@ -41,9 +48,11 @@ pub fn rows_of_done_links()
     ensures { RowsAreLawful }
 {}
 
-/// The start of a run, with nothing read, put, sent, taken or written, is such a moment.
+/// The start of a run, with nothing read, put, sent, taken or written, is such a moment, and no mark is behind the
+/// records then.
 pub fn start_is_snapshot()
-    ensures { StartIsSnapshot }
+    ensures snapshot { StartIsSnapshot }
+    ensures marked { StartIsMarked }
 {}
 
 /// Where no capture has a record, and none is malformed, there is such a moment at which all is done. So what is

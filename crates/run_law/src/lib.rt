@@ -7,7 +7,7 @@ mod laws;
 
 pub use laws::{
     answers_to_come_are_later, done_has_written_report, grouper_keeps_on,
-    groups_sent_are_front_of_shard, merge_keeps_on, no_sent_group_gains, nothing_is_held_back,
-    processor_keeps_on, rows_of_done_links, run_without_records_ends, start_is_snapshot,
-    written_is_front_of_report,
+    groups_sent_are_front_of_shard, lines_follow_records, merge_keeps_on, no_sent_group_gains,
+    nothing_is_held_back, processor_keeps_on, rows_of_done_links, run_without_records_ends,
+    start_is_snapshot, written_is_front_of_report,
 };
