@@ -73,11 +73,12 @@ fn answers<R: Threads + Sync + Abort>(
     end: &str,
 ) -> Result<(), AllocError> {
     let plain = job(alloc, "0", LOOP, "")?;
+    let a = bytes.to_vec(alloc)?;
     let b = file(alloc, B)?;
     let c = file(alloc, C)?;
     let named: [Named<'_>; 4] = [
         ("j", plain.as_slice()),
-        ("a", bytes),
+        ("a", a.as_slice()),
         ("b", b.as_slice()),
         ("c", c.as_slice()),
     ];
