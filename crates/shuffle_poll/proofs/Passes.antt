@@ -1,17 +1,18 @@
 -- A lane's poll: what is ready is offered, the link is pumped, and what became ready is offered.
-use Rattle.std.proofs.Common.{◌≡◌, ◌≢◌, ◌<◌, ◌≤◌, ℕ, zero, suc, ◌-◌, ◌⊎◌, inl, inr, ⊎_elim, Bool, true, false, ◌||◌, if◌then◌else◌, IsTrue, nat_lt, None, List, [], ◌∷◌, ◌++◌, length, take, drop, replicate, refl, sym, ap, ap₂, ◌∙◌, subst, arith, append_assoc, length-append}
+use Rattle.std.proofs.Common.{◌≡◌, ◌≢◌, ◌<◌, ◌≤◌, ℕ, zero, suc, ◌-◌, ◌⊎◌, inl, inr, ⊎_elim, Bool, true, false, ◌||◌, if◌then◌else◌, IsTrue, nat_lt, Option, None, Some, ◌+◌, List, [], ◌∷◌, ◌++◌, length, take, drop, replicate, refl, sym, ap, ap₂, ◌∙◌, subst, arith, append_assoc, length-append}
 use Rattle.std.proofs.lemmas.List.{length-take, length-drop, nil_from_length}
 use Rattle.ds_base.specs.Pipes.{PipeSeen, AnsweredZero}
 use Rattle.node_frames.specs.declared.frame.Frame.{Frame}
 use Rattle.std.proofs.lemmas.Bool.Decides.{nat_tests}
-use Rattle.credit_link.specs.Frames.{is_finish, has_finish, FinishIsLast}
+use Rattle.credit_link.specs.declared.link_bad.LinkBad.{LinkBad}
+use Rattle.credit_link.specs.Frames.{capped, is_finish, has_finish, FinishIsLast}
 use Rattle.credit_link.specs.Moves.{EndMoves}
 use Rattle.credit_link.specs.Ends.{TxSeen, TxStands, IsReady}
-use Rattle.credit_link.specs.Pumping.{TxPumps}
+use Rattle.credit_link.specs.Pumping.{TxPumps, TxFails, TxKeeps}
 use Rattle.shuffle_poll.specs.declared.needs.Need.{Need}
 use Rattle.shuffle_poll.specs.declared.needs.Need.TheVariants.{Nothing, Credit, Room}
 use Rattle.shuffle_poll.specs.Lanes.{LaneSeen, put_on, IsBlocked, OffersFront}
-use Rattle.shuffle_poll.specs.Polling.{LanePolls}
+use Rattle.shuffle_poll.specs.Polling.{LanePolls, LaneFails}
 
 -- ---- the end of a link was not offered where a frame waits
 
@@ -40,6 +41,26 @@ offers before after frame ready front rest on some same = record {
 
 -- ---- the whole poll
 
+pub none_or_kept : (fault : Option LinkBad) → (fault ≡ None) ⊎ ((bad : LinkBad) × (fault ≡ Some bad))
+none_or_kept None = inl refl
+none_or_kept (Some bad) = inr (bad, refl)
+
+pub fails : (a b d : LaneSeen) (cut : ℕ) (bad : LinkBad) → OffersFront a b → d.queue ≡ b.queue → d.tx.fault ≡ Some bad → TxKeeps b.tx d.tx → ((kept : LinkBad) → b.tx.fault ≡ Some kept → d.tx ≡ b.tx)
+    → (b.tx.fault ≡ None → TxFails b.tx d.tx cut bad) → LaneFails a d cut bad
+fails a b d cut bad first queue fault keeps again failed =
+    let same : a.tx.fault ≡ b.tx.fault = sym (ap (λ (t : TxSeen). t.fault) first.same) in
+    record {
+      fault = fault;
+      mid = b;
+      offers = first;
+      queue = queue;
+      kept = keeps;
+      how = ⊎_elim (λ (none : b.tx.fault ≡ None). inr (same ∙ none, failed none))
+          (λ (kept : (old : LinkBad) × (b.tx.fault ≡ Some old)).
+          let unmoved : d.tx ≡ b.tx = again kept.0 kept.1 in
+          inl (same ∙ ap (λ (t : TxSeen). t.fault) (sym unmoved) ∙ fault, unmoved)) (none_or_kept b.tx.fault);
+    }
+
 -- the poll's facts, of what was before, after the first offer, after the pump and at the end
 pub record Passing (a b c d : LaneSeen) (cut n : ℕ) : Type 0 where
   pub first : OffersFront a b
@@ -48,6 +69,7 @@ pub record Passing (a b c d : LaneSeen) (cut n : ℕ) : Type 0 where
   pub second : OffersFront c d
   pub stands : TxStands d.tx
   pub quiet : c.tx.fault ≡ None
+  pub again : (bad : LinkBad) → b.tx.fault ≡ Some bad → c.tx ≡ b.tx
 
 -- what of it the poll's clauses cite
 pub record Passed_ (a b c d : LaneSeen) (cut n : ℕ) (p : TxPumps b.tx c.tx cut n) : Type 0 where
@@ -60,6 +82,8 @@ pub record Passed_ (a b c d : LaneSeen) (cut n : ℕ) (p : TxPumps b.tx c.tx cut
   pub kept : (d.tx.credits ≡ a.tx.credits) × (d.tx.forth_name ≡ a.tx.forth_name) × (d.tx.back_name ≡ a.tx.back_name) × (d.tx.fault ≡ None)
   pub now_held : c.tx.held ≡ b.tx.held - p.paid
   pub credits : (d.tx.credits ≡ c.tx.credits)
+  pub repaid : d.tx.repaid ≡ capped (a.tx.repaid + p.paid)
+  pub unfaulted : a.tx.fault ≡ None
 
 passed : (a b c d : LaneSeen) (cut n : ℕ) (w : Passing a b c d cut n) → Passed_ a b c d cut n w.pump
 passed a b c d cut n w =
@@ -92,6 +116,12 @@ passed a b c d cut n w =
       );
       now_held = c_held;
       credits = ap (λ (t : TxSeen). t.credits) w.second.same;
+      repaid = ap (λ (t : TxSeen). t.repaid) w.second.same ∙ ap (λ (t : TxSeen). t.repaid) p.same ∙ ap (λ (t : TxSeen). capped (t.repaid + p.paid)) w.first.same;
+      unfaulted = sym (ap (λ (t : TxSeen). t.fault) w.first.same) ∙
+          ⊎_elim (λ (none : b.tx.fault ≡ None). none)
+          (λ (kept : (old : LinkBad) × (b.tx.fault ≡ Some old)).
+          let wrong : None ≡ Some kept.0 = sym w.quiet ∙ ap (λ (t : TxSeen). t.fault) (w.again kept.0 kept.1) ∙ kept.1 in
+          cc) (none_or_kept b.tx.fault);
     }
 
 abbrev pub need_for : (waits lacks : Bool) → Need
@@ -173,7 +203,15 @@ polls a b c d cut n waits lacks w lacks_is lacks_not waits_not waits_is =
       paid_bytes = λ told. ap (λ (x : PipeSeen). x.bytes) db ∙ p.paid_bytes (subst (λ (x : PipeSeen). IsTrue x.told) (sym bb) told) ∙ ap (λ (x : PipeSeen). x.bytes ++ replicate p.paid 1) bb;
       forth = record { told = f.forth.told; faults = f.forth.faults; sure = omega (arith, f.forth.sure, long) };
       back = record { told = f.back.told; faults = f.back.faults; sure = f.back.sure };
+      repaid = f.repaid;
+      quiet = f.unfaulted;
       kept = f.kept;
+      data_alone = λ none empty.
+          let same : b ≡ a = w.first.idle (inl none) in
+          f.forth.unasked (λ asked. omega (arith, asked.1, ap (λ (l : LaneSeen). length l.tx.left) same, ap length empty));
+      credit_alone = λ none free.
+          let same : b ≡ a = w.first.idle (inl none) in
+          f.back.unasked (λ asked. omega (arith, asked.1, ap (λ (l : LaneSeen). l.tx.held) same, free));
       data_zero = λ none some bytes. f.forth.zero (some, omega (arith, bytes, ap length (f.left none))) (omega (arith, p.total, none));
       credit_zero = λ none some held. f.back.zero (some, omega (arith, held, f.held none)) (omega (arith, p.total, none));
       unready = λ some. ⊎_elim (λ (e : d.queue ≡ []). absurd (some e)) (λ (never : ¬ IsReady d.tx). never) w.second.blocked;

@@ -4,12 +4,13 @@ use Rattle.node_frames.specs.declared.frame.Frame.{Frame}
 use Rattle.credit_link.specs.declared.row.LinkRow.{LinkRow}
 use Rattle.credit_link.specs.Frames.{capped, FinishIsLast}
 use Rattle.byte_rings.specs.Rings.{Looks, IsOnRing}
-use Rattle.credit_link.specs.Ends.{TxSeen, RxSeen}
+use Rattle.credit_link.specs.Ends.{TxSeen, RxSeen, TxStands}
 use Rattle.shuffle_poll.specs.declared.needs.Needs.{Needs}
 use Rattle.shuffle_poll.specs.declared.needs.Passed.{Passed}
 use Rattle.shuffle_poll.specs.Lanes.{LaneSeen, put_on}
 use Rattle.shuffle_poll.specs.Needs.{is_credit, is_room, number_of_bits}
-use Rattle.shuffle_poll.specs.Polling.{LanePolls}
+use Rattle.shuffle_poll.specs.declared.needs.ShuffleFault.{ShuffleFault}
+use Rattle.shuffle_poll.specs.Polling.{LanePolls, LaneFails}
 
 pub record ShuffleSeen : Type 0 where
   pub links : List TxSeen
@@ -28,15 +29,14 @@ pub record ChangesLane (links links' : List TxSeen) (queues queues' : List (List
   pub links_set : (d : TxSeen) → links' ≡ slice_set links i (slice_index_or links' i d)
   pub queues_set : queues' ≡ slice_set queues i (slice_index_or queues' i [])
 
--- as many queues as links; and of the frames put on each link the end is last
+-- As many queues as links, of which there are at most 17. Each link stands as a sending end does, at most two
+-- frames wait for it, and of the frames put on it the end is last.
 pub record ShuffleHolds (links : List TxSeen) (queues : List (List Frame)) : Type 0 where
   pub as_many : length queues ≡ length links
   pub few : length links ≤ 17
+  pub stand : (k : ℕ) (d : TxSeen) → k < length links → TxStands (slice_index_or links k d)
+  pub two : (k : ℕ) → length (slice_index_or queues k []) ≤ 2
   pub last : (k : ℕ) (d : TxSeen) → k < length links → FinishIsLast (put_on (lane_at links queues k d))
-
--- on each link the end is the last frame, if it was offered
-abbrev pub EndsLast : List TxSeen → Type 0
-EndsLast links = (k : ℕ) (d : TxSeen) → k < length links → FinishIsLast (slice_index_or links k d).offered
 
 -- the row of a link
 abbrev pub row_of : TxSeen → (from to taken : ℕ) → LinkRow
@@ -61,3 +61,11 @@ pub record PollsLanes (links links' : List TxSeen) (queues queues' : List (List 
   pub credit : needs.credit ≡ number_of_bits (map (λ (p : Passed). is_credit p.need) answers)
   pub room : needs.room ≡ number_of_bits (map (λ (p : Passed). is_room p.need) answers)
   pub moved : needs.moved ≡ nat_lt 0 (sum_by (λ (p : Passed). p.moved) answers)
+
+-- a poll met a fault: the lanes before the one that failed were polled without one, and those behind it were
+-- left alone
+pub record FailsAt (links links' : List TxSeen) (queues queues' : List (List Frame)) (cut : ℕ) (fault : ShuffleFault) : Type 0 where
+  pub there : fault.link < length links
+  pub before : (k : ℕ) (d : TxSeen) → k < fault.link → (answer : Passed) × LanePolls (lane_at links queues k d) (lane_at links' queues' k d) cut answer
+  pub here : (d : TxSeen) → LaneFails (lane_at links queues fault.link d) (lane_at links' queues' fault.link d) cut fault.bad
+  pub behind : (k : ℕ) (d : TxSeen) → fault.link < k → lane_at links' queues' k d ≡ lane_at links queues k d

@@ -36,6 +36,7 @@ pub(crate) fn poll_lane<T: NamedTx, R: NamedRx>(
     ensures polls { IfOk result (λ answer. LanePolls (record { tx = tx.old; queue = queue.old }) (record { tx = tx.new; queue = queue.new }) cut answer) }
     ensures fails { IfErr result (λ bad. LaneFails (record { tx = tx.old; queue = queue.old }) (record { tx = tx.new; queue = queue.new }) cut bad) }
     ensures all_put { put_on (record { tx = tx.new; queue = queue.new }) ≡ put_on (record { tx = tx.old; queue = queue.old }) }
+    ensures fewer { length queue.new ≤ length queue.old }
     ensures stands { TxStands tx.new }
 {
     offer_front(tx, queue);

@@ -1,6 +1,6 @@
 //! The links that lead from one node to others, and the frames that wait for them.
 ghost use Rattle.std.specs.Prelude.{slice_index_or, slice_set, ◌≢◌, ◌≡◌, ◌<◌, ◌≤◌, ◌+◌, ℕ, List, true, false, IsTrue, IfOk, IfErr, OnOk, [], ◌∷◌, ◌++◌, length, sum_by, replicate, ◌^◌, ◌||◌, nat_lt, if◌then◌else◌};
-ghost use Rattle.credit_link.specs.Ends.{TxSeen};
+ghost use Rattle.credit_link.specs.Ends.{TxSeen, TxStands};
 ghost use Rattle.credit_link.specs.Joined.{AreOneLink};
 ghost use Rattle.credit_link.specs.Frames.{FinishIsLast, has_finish};
 ghost use Rattle.shuffle_poll.specs.declared.needs.Polled.TheVariants.{Ready};
@@ -8,7 +8,7 @@ ghost use Rattle.shuffle_poll.specs.declared.needs.Passed.{Passed as Answer};
 ghost use Rattle.shuffle_poll.specs.Lanes.{put_on};
 ghost use Rattle.shuffle_poll.specs.Polling.{LanePolls, LaneFails};
 ghost use Rattle.shuffle_poll.specs.Needs.{is_credit, is_room};
-ghost use Rattle.shuffle_poll.specs.Shuffles.{lane_at, lane_of, row_of, EndsLast, IsSettled, Shows, ChangesLane, PollsLanes, ShuffleHolds};
+ghost use Rattle.shuffle_poll.specs.Shuffles.{lane_at, lane_of, row_of, IsSettled, Shows, ChangesLane, PollsLanes, FailsAt, ShuffleHolds};
 
 use crate::lane::poll_lane;
 use crate::needs::{Need, Needs, Passed, Polled, ShuffleFault};
@@ -49,11 +49,12 @@ impl<T: NamedTx, R: NamedRx> Shuffle<T, R> {
     /// A shuffle over 1 to 17 links, on which nothing waits. It is refused for want of memory alone, and
     /// takes all memory that it ever needs.
     pub fn new(alloc: Global, links: LinkTxList<T, R>) -> Result<Self, NoShuffle<T, R>>
-        requires { (1 ≤ length links.items) × (length links.items ≤ 17) × EndsLast links.items }
+        requires { (1 ≤ length links.items) × (length links.items ≤ 17) }
         ensures fresh { IfOk result (λ s. s ≡ record { links = links.items; queues = replicate (length links.items) [] }) }
         ensures holds { IfOk result (λ s. ShuffleHolds s.links s.queues) }
         ensures refused { IfErr result (λ no. no.links.items ≡ links.items) }
     {
+        show_standing(&links);
         let count = links.len() as usize;
         match empty_queues(alloc, count) {
             Ok(queues) => Ok(Shuffle { links, queues }),
@@ -69,7 +70,8 @@ impl<T: NamedTx, R: NamedRx> Shuffle<T, R> {
         ensures all_put { (k : ℕ) (d : TxSeen) → put_on (lane_of self.new k d) ≡ put_on (lane_of self.old k d) }
         ensures polls { IfOk result (λ _. (answers : List Answer) × (length answers ≡ length self.old.links) × PollsLanes self.old.links self.new.links self.old.queues self.new.queues cut needs.new answers) }
         ensures ready { IfOk result (λ polled. (polled ≡ Ready → (k : ℕ) → slice_index_or self.new.queues k [] ≡ []) × (((k : ℕ) → slice_index_or self.new.queues k [] ≡ []) → polled ≡ Ready)) }
-        ensures fails { IfErr result (λ fault. (fault.link < length self.old.links) × ((d : TxSeen) → LaneFails (lane_of self.old fault.link d) (lane_of self.new fault.link d) cut fault.bad)) }
+        ensures fails { IfErr result (λ fault. FailsAt self.old.links self.new.links self.old.queues self.new.queues cut fault) }
+        ensures unwritten { IfErr result (λ _. needs.new ≡ needs.old) }
     {
         match poll_all(&mut self.links, &mut self.queues, cut, needs) {
             Ok(()) => {
@@ -166,6 +168,15 @@ fn put_to_all(queues: &mut Vec<Queue>, count: usize, frame: &Frame)
     }
 }
 
+// Each link stands as a sending end does.
+fn show_standing<T: NamedTx, R: NamedRx>(links: &LinkTxList<T, R>)
+    ensures stand { (k : ℕ) (d : TxSeen) → k < length links.now.items → TxStands (slice_index_or links.now.items k d) }
+{
+    'standing: for i in 0..links.len() {
+        let _ = links.get(i).held();
+    }
+}
+
 // How many frames wait in all.
 fn count_waiting(queues: &Vec<Queue>) -> u32
     requires { length queues.now.items ≤ 17 }
@@ -208,8 +219,11 @@ fn show_at(links: &mut LinkTxList<RingTx, RingRx>, i: u64, rx: &mut LinkRx<RingR
     ensures long { length links.new.items ≡ length links.old.items }
     ensures links { (d : TxSeen) → links.new.items ≡ slice_set links.old.items i (slice_index_or links.new.items i d) }
     ensures shows { (d : TxSeen) → Shows (slice_index_or links.old.items i d) (slice_index_or links.new.items i d) rx.old rx.new }
+    ensures stands { (d : TxSeen) → TxStands (slice_index_or links.new.items i d) }
 {
-    links.get_mut(i).beside(rx);
+    let tx = links.get_mut(i);
+    tx.beside(rx);
+    let _ = tx.held();
 }
 
 // Whether a frame waits for some link.
@@ -249,6 +263,8 @@ fn poll_at<T: NamedTx, R: NamedRx>(
     requires last { (d : TxSeen) → FinishIsLast (put_on (lane_at links.old.items queues.old.items i d)) }
     ensures changes { ChangesLane links.old.items links.new.items queues.old.items queues.new.items i }
     ensures all_put { (d : TxSeen) → put_on (lane_at links.new.items queues.new.items i d) ≡ put_on (lane_at links.old.items queues.old.items i d) }
+    ensures stands { (d : TxSeen) → TxStands (slice_index_or links.new.items i d) }
+    ensures fewer { length (slice_index_or queues.new.items i []) ≤ length (slice_index_or queues.old.items i []) }
     ensures polls { IfOk result (λ answer. (d : TxSeen) → LanePolls (lane_at links.old.items queues.old.items i d) (lane_at links.new.items queues.new.items i d) cut answer) }
     ensures fails { IfErr result (λ bad. (d : TxSeen) → LaneFails (lane_at links.old.items queues.old.items i d) (lane_at links.new.items queues.new.items i d) cut bad) }
 {
@@ -293,7 +309,8 @@ fn poll_all<T: NamedTx, R: NamedRx>(
     ensures as_many { length links.new.items ≡ length links.old.items }
     ensures all_put { (k : ℕ) (d : TxSeen) → put_on (lane_at links.new.items queues.new.items k d) ≡ put_on (lane_at links.old.items queues.old.items k d) }
     ensures polls { OnOk result ((answers : List Answer) × (length answers ≡ length links.old.items) × PollsLanes links.old.items links.new.items queues.old.items queues.new.items cut needs.new answers) }
-    ensures fails { IfErr result (λ fault. (fault.link < length links.old.items) × ((d : TxSeen) → LaneFails (lane_at links.old.items queues.old.items fault.link d) (lane_at links.new.items queues.new.items fault.link d) cut fault.bad)) }
+    ensures fails { IfErr result (λ fault. FailsAt links.old.items links.new.items queues.old.items queues.new.items cut fault) }
+    ensures unwritten { IfErr result (λ _. needs.new ≡ needs.old) }
 {
     let mut found = Needs {
         credit: 0,

@@ -1,9 +1,6 @@
 -- One lane more is polled, or failed.
-use Rattle.std.proofs.Common.{◌∙◌, arith, subst}
-use Rattle.shuffle_poll.specs.Lanes.{LaneSeen}
-use Rattle.shuffle_poll.specs.Polling.{LaneFails}
-use Rattle.shuffle_poll.specs.Shuffles.{lane_at}
-use Rattle.shuffle_poll.proofs.Sofar.{begins, goes_on, changed_put, changed_holds}
+use Rattle.std.proofs.Common.{◌∙◌, arith}
+use Rattle.shuffle_poll.proofs.Sofar.{begins, goes_on, fails_at, changed_put, changed_holds}
 use Rattle.shuffle_poll.proofs.shuffle.poll_all.Goals as goal
 
 pub lanes-init : goal.lanes-init
@@ -23,11 +20,11 @@ pub lanes-preserved : goal.lanes-preserved
 lanes-preserved g c =
     let e = c.in-Ok.ensures in
     goes_on c.args.links.now.items c.lanes.links.items c.poll_at.new.links.items c.args.queues.now.items c.lanes.queues.items c.poll_at.new.queues.items c.args.cut c.lanes.i c.lanes.found c.note.new.needs
-    c.lanes.answers.items c.and-answers.result.items c.in-Ok.passed c.lanes.invariant e.changes e.all_put e.polls c.and-answers.ensures c.note.ensures.credit c.note.ensures.room c.note.ensures.moved
+    c.lanes.answers.items c.and-answers.result.items c.in-Ok.passed c.lanes.invariant e.changes e.all_put e.stands e.fewer e.polls c.and-answers.ensures c.note.ensures.credit c.note.ensures.room c.note.ensures.moved
 
 pub returns-in-Err-clause-holds : goal.returns-in-Err-clause-holds
 returns-in-Err-clause-holds g c =
-    changed_holds c.lanes.links.items c.poll_at.new.links.items c.lanes.queues.items c.poll_at.new.queues.items c.lanes.i c.lanes.invariant.holds c.in-Err.ensures.changes c.in-Err.ensures.all_put
+    changed_holds c.lanes.links.items c.poll_at.new.links.items c.lanes.queues.items c.poll_at.new.queues.items c.lanes.i c.lanes.invariant.holds c.in-Err.ensures.changes c.in-Err.ensures.all_put c.in-Err.ensures.stands c.in-Err.ensures.fewer
 
 pub returns-in-Err-clause-as_many : goal.returns-in-Err-clause-as_many
 returns-in-Err-clause-as_many g c = c.in-Err.ensures.changes.lengths.0 ∙ c.lanes.invariant.as_many
@@ -37,7 +34,6 @@ returns-in-Err-clause-all_put g c k d =
     changed_put c.lanes.links.items c.poll_at.new.links.items c.lanes.queues.items c.poll_at.new.queues.items c.lanes.i c.in-Err.ensures.changes c.in-Err.ensures.all_put k d ∙ c.lanes.invariant.all_put k d
 
 pub returns-in-Err-clause-fails : goal.returns-in-Err-clause-fails
-returns-in-Err-clause-fails g c = (
-  omega (arith, c.lanes-test.true, c.len-i-end.ensures),
-  (λ d. subst (λ (l : LaneSeen). LaneFails l (lane_at c.poll_at.new.links.items c.poll_at.new.queues.items c.lanes.i d) c.args.cut c.in-Err.bad) (c.lanes.invariant.rest c.lanes.i d (omega arith)) (c.in-Err.ensures.fails d)),
-)
+returns-in-Err-clause-fails g c =
+    fails_at c.args.links.now.items c.lanes.links.items c.poll_at.new.links.items c.args.queues.now.items c.lanes.queues.items c.poll_at.new.queues.items c.args.cut c.lanes.i c.lanes.found c.lanes.answers.items c.in-Err.bad
+    c.lanes.invariant c.in-Err.ensures.changes (omega (arith, c.lanes-test.true, c.len-i-end.ensures)) c.in-Err.ensures.fails
