@@ -27,14 +27,15 @@ going (f ∷ frames) frame more last = going_by (is_finish f) (has_finish frames
 -- ---- the first frame is offered
 
 pub stays : (lane : LaneSeen) → IsBlocked lane → OffersFront lane lane
-stays lane blocked = record { all_put = refl; fewer = omega arith; same = refl; blocked = blocked; idle = λ _. refl }
+stays lane blocked = record { all_put = refl; fewer = omega arith; same = refl; held = omega arith; blocked = blocked; idle = λ _. refl }
 
 pub offers : (before after : LaneSeen) (frame : Frame) → IsReady before.tx → before.queue ≡ frame ∷ drop 1 before.queue → after.queue ≡ drop 1 before.queue → after.tx.offered ≡ before.tx.offered ++ frame ∷ []
-    → 0 < length after.tx.left → after.tx ≡ record before.tx { offered = after.tx.offered; left = after.tx.left; held = after.tx.held; most_held = after.tx.most_held; finished = after.tx.finished } → OffersFront before after
-offers before after frame ready front rest on some same = record {
+    → after.tx.held ≡ before.tx.held + 1 → 0 < length after.tx.left → after.tx ≡ record before.tx { offered = after.tx.offered; left = after.tx.left; held = after.tx.held; most_held = after.tx.most_held; finished = after.tx.finished } → OffersFront before after
+offers before after frame ready front rest on held some same = record {
   all_put = ap₂ (λ (a b : List Frame). a ++ b) on rest ∙ append_assoc before.tx.offered (frame ∷ []) (drop 1 before.queue) ∙ ap (λ q. before.tx.offered ++ q) (sym front);
   fewer = omega (arith, ap length rest, length-drop 1 before.queue);
   same = same;
+  held = omega (arith, held);
   blocked = inr (λ again. omega (arith, some, ap length again.1));
   idle = λ blocked. absurd (⊎_elim (λ (none : before.queue ≡ []). omega (arith, ap length (sym none ∙ front))) (λ (never : ¬ IsReady before.tx). never ready) blocked);
 }
@@ -153,36 +154,31 @@ nothing_of false lacks h = refl
 below : (held credits : ℕ) → held ≤ credits → held ≢ credits → held < credits
 below held credits most other = grind arith
 
-credit_facts : (a b c d : LaneSeen) (cut n : ℕ) (w : Passing a b c d cut n) → c.tx.held ≡ b.tx.held → c.tx.held ≡ c.tx.credits → (w.pump.paid ≡ 0) × (d.tx.held ≡ d.tx.credits) × (0 < cut → AnsweredZero a.tx.back d.tx.back)
-credit_facts a b c d cut n w same full =
+credit_facts : (a b c d : LaneSeen) (cut n : ℕ) (w : Passing a b c d cut n) → 0 < b.tx.held → c.tx.held ≡ b.tx.held → d.tx.held ≡ d.tx.credits → (w.pump.paid ≡ 0) × (d.tx.held ≡ d.tx.credits) × (0 < cut → AnsweredZero a.tx.back d.tx.back)
+credit_facts a b c d cut n w some same full =
     let f = passed a b c d cut n w in
     let none : w.pump.paid ≡ 0 = omega (arith, f.now_held, w.pump.paid_within.0, same) in
-    let still : d ≡ c = w.second.idle (inr (λ ready. omega (arith, ready.0, full))) in
-    let some : 0 < d.tx.credits = w.stands.sender.some in
-    (none, ap (λ (l : LaneSeen). l.tx.held) still ∙ full ∙ sym f.credits, (λ asked. f.back.zero (asked, omega (arith, some, f.credits, full, same)) none))
+    (none, full, (λ asked. f.back.zero (asked, some) none))
 
-room_moved : (a b c d : LaneSeen) (cut n : ℕ) (w : Passing a b c d cut n) → (c.tx.held ≡ b.tx.held → c.tx.held ≢ c.tx.credits) → w.pump.paid ≡ 0 → d.tx.held ≡ d.tx.credits → 0 < n
-room_moved a b c d cut n w other none full =
+room_alone : (a b c d : LaneSeen) (cut n : ℕ) (w : Passing a b c d cut n) → (0 < b.tx.held → c.tx.held ≡ b.tx.held → d.tx.held ≢ d.tx.credits) → w.pump.paid ≡ 0 → d.tx.held ≡ d.tx.credits → d.tx.back ≡ a.tx.back
+room_alone a b c d cut n w other none full =
     let f = passed a b c d cut n w in
-    ⊎_elim (λ (e : n ≡ 0).
-    let still : d ≡ c = f.still e in
-    absurd (other (omega (arith, f.now_held, none)) (ap (λ (l : LaneSeen). l.tx.held) (sym still) ∙ full ∙ ap (λ (l : LaneSeen). l.tx.credits) still)))
-    (λ (some : 0 < n). some) (none_or_some n)
+    f.back.unasked (λ asked. other asked.1 (omega (arith, f.now_held, none)) full)
 
-room_zero : (a b c d : LaneSeen) (cut n : ℕ) (w : Passing a b c d cut n) → (c.tx.held ≡ b.tx.held → c.tx.held ≢ c.tx.credits) → d.queue ≢ [] → 0 < cut → (0 < n) ⊎ AnsweredZero a.tx.forth d.tx.forth
+room_zero : (a b c d : LaneSeen) (cut n : ℕ) (w : Passing a b c d cut n) → (0 < b.tx.held → c.tx.held ≡ b.tx.held → d.tx.held ≢ d.tx.credits) → d.queue ≢ [] → 0 < cut → (0 < n) ⊎ AnsweredZero a.tx.forth d.tx.forth
 room_zero a b c d cut n w other waits asked =
     let f = passed a b c d cut n w in
     ⊎_elim (λ (e : n ≡ 0).
-    let still : d ≡ c = f.still e in
     let none : w.pump.paid ≡ 0 = omega (arith, w.pump.total, e) in
-    let not_full : d.tx.held ≢ d.tx.credits = λ full. other (omega (arith, f.now_held, none)) (ap (λ (l : LaneSeen). l.tx.held) (sym still) ∙ full ∙ ap (λ (l : LaneSeen). l.tx.credits) still) in
-    let free : d.tx.held < d.tx.credits = below d.tx.held d.tx.credits w.stands.sender.within not_full in
+    let free : d.tx.held < d.tx.credits =
+    ⊎_elim (λ (zero_held : b.tx.held ≡ 0). omega (arith, f.held e, zero_held, w.stands.sender.some))
+    (λ (some : 0 < b.tx.held). below d.tx.held d.tx.credits w.stands.sender.within (other some (omega (arith, f.now_held, none)))) (none_or_some b.tx.held) in
     let never : ¬ IsReady d.tx = ⊎_elim (λ (q : d.queue ≡ []). absurd (waits q)) (λ (u : ¬ IsReady d.tx). u) w.second.blocked in
     let bytes : 0 < length d.tx.left = ⊎_elim (λ (q : length d.tx.left ≡ 0). absurd (never (free, nil_from_length d.tx.left q))) (λ (u : 0 < length d.tx.left). u) (none_or_some (length d.tx.left)) in
     inr (f.forth.zero (asked, omega (arith, bytes, ap length (f.left e))) (omega (arith, w.pump.total, e))))
     (λ (some : 0 < n). inl some) (none_or_some n)
 
-pub polls : (a b c d : LaneSeen) (cut n : ℕ) (waits lacks : Bool) → Passing a b c d cut n → (lacks ≡ true → (c.tx.held ≡ b.tx.held) × (c.tx.held ≡ c.tx.credits)) → (lacks ≡ false → c.tx.held ≡ b.tx.held → c.tx.held ≢ c.tx.credits)
+pub polls : (a b c d : LaneSeen) (cut n : ℕ) (waits lacks : Bool) → Passing a b c d cut n → (lacks ≡ true → (0 < b.tx.held) × (c.tx.held ≡ b.tx.held) × (d.tx.held ≡ d.tx.credits)) → (lacks ≡ false → 0 < b.tx.held → c.tx.held ≡ b.tx.held → d.tx.held ≢ d.tx.credits)
     → (waits ≡ false → d.queue ≡ []) → (waits ≡ true → d.queue ≢ []) → LanePolls a d cut (record { moved = n; need = need_for waits lacks })
 polls a b c d cut n waits lacks w lacks_is lacks_not waits_not waits_is =
     let p = w.pump in
@@ -212,14 +208,18 @@ polls a b c d cut n waits lacks w lacks_is lacks_not waits_not waits_is =
       credit_alone = λ none free.
           let same : b ≡ a = w.first.idle (inl none) in
           f.back.unasked (λ asked. omega (arith, asked.1, ap (λ (l : LaneSeen). l.tx.held) same, free));
+      data_asked = λ none asked some.
+          let same : b ≡ a = w.first.idle (inr (λ ready. omega (arith, some, ap length ready.1))) in
+          f.forth.zero (asked, omega (arith, some, ap (λ (l : LaneSeen). length l.tx.left) same)) (omega (arith, long, ap length none));
+      credit_asked = λ none asked some. f.back.zero (asked, omega (arith, some, w.first.held)) none;
       data_zero = λ none some bytes. f.forth.zero (some, omega (arith, bytes, ap length (f.left none))) (omega (arith, p.total, none));
       credit_zero = λ none some held. f.back.zero (some, omega (arith, held, f.held none)) (omega (arith, p.total, none));
       unready = λ some. ⊎_elim (λ (e : d.queue ≡ []). absurd (some e)) (λ (never : ¬ IsReady d.tx). never) w.second.blocked;
       nothing = ((λ h. waits_not (needs_nothing waits lacks h)), (λ none. nothing_of waits lacks (λ some. waits_is some none)));
-      credit = λ h. let l = lacks_is (needs_credit waits lacks h) in credit_facts a b c d cut n w l.0 l.1;
+      credit = λ h. let l = lacks_is (needs_credit waits lacks h) in credit_facts a b c d cut n w l.0 l.1 l.2;
       room = λ h.
           let r = needs_room waits lacks h in
-          (room_moved a b c d cut n w (lacks_not r.1), room_zero a b c d cut n w (lacks_not r.1) (waits_is r.0));
+          (room_alone a b c d cut n w (lacks_not r.1), room_zero a b c d cut n w (lacks_not r.1) (waits_is r.0));
     }
 
 -- whether a frame waits, by how many there are

@@ -28,5 +28,6 @@ pub record OffersFront (before after : LaneSeen) : Type 0 where
   pub all_put : put_on after ≡ put_on before
   pub fewer : length after.queue ≤ length before.queue
   pub same : after.tx ≡ record before.tx { offered = after.tx.offered; left = after.tx.left; held = after.tx.held; most_held = after.tx.most_held; finished = after.tx.finished }
+  pub held : before.tx.held ≤ after.tx.held
   pub blocked : IsBlocked after
   pub idle : IsBlocked before → after ≡ before

@@ -16,8 +16,10 @@ pub record EndPolled (before after : PipeSeen) (n : ℕ) : Type 0 where
   pub sure : before.sure ≤ after.sure + n
 
 -- A poll without a fault: bytes went into the data pipe and credits came back, and frames that waited were
--- offered. Where nothing moved, each pipe with something to move answered 0; where nothing waits, a pipe with
--- nothing to move is left alone; and a link on which a frame waits is not ready.
+-- offered. A pipe that had something to move and moved nothing answered 0, and where neither moved, so did each
+-- pipe with something to move at the end; where nothing waits, a pipe with nothing to move is left alone. A link
+-- on which a frame waits is not ready: it needs a credit where as many frames are held as there are credits and
+-- the credit pipe was asked and brought none, and else room.
 pub record LanePolls (before after : LaneSeen) (cut : ℕ) (answer : Passed) : Type 0 where
   pub all_put : put_on after ≡ put_on before
   pub fewer : length after.queue ≤ length before.queue
@@ -32,6 +34,8 @@ pub record LanePolls (before after : LaneSeen) (cut : ℕ) (answer : Passed) : T
   pub repaid : after.tx.repaid ≡ capped (before.tx.repaid + paid)
   pub quiet : before.tx.fault ≡ None
   pub kept : (after.tx.credits ≡ before.tx.credits) × (after.tx.forth_name ≡ before.tx.forth_name) × (after.tx.back_name ≡ before.tx.back_name) × (after.tx.fault ≡ None)
+  pub data_asked : sent ≡ [] → 0 < cut → 0 < length before.tx.left → AnsweredZero before.tx.forth after.tx.forth
+  pub credit_asked : paid ≡ 0 → 0 < cut → 0 < before.tx.held → AnsweredZero before.tx.back after.tx.back
   pub data_zero : answer.moved ≡ 0 → 0 < cut → 0 < length after.tx.left → AnsweredZero before.tx.forth after.tx.forth
   pub credit_zero : answer.moved ≡ 0 → 0 < cut → 0 < after.tx.held → AnsweredZero before.tx.back after.tx.back
   pub data_alone : before.queue ≡ [] → before.tx.left ≡ [] → after.tx.forth ≡ before.tx.forth
@@ -39,7 +43,7 @@ pub record LanePolls (before after : LaneSeen) (cut : ℕ) (answer : Passed) : T
   pub unready : after.queue ≢ [] → ¬ IsReady after.tx
   pub nothing : (answer.need ≡ Nothing → after.queue ≡ []) × (after.queue ≡ [] → answer.need ≡ Nothing)
   pub credit : answer.need ≡ Credit → (paid ≡ 0) × (after.tx.held ≡ after.tx.credits) × (0 < cut → AnsweredZero before.tx.back after.tx.back)
-  pub room : answer.need ≡ Room → (paid ≡ 0 → after.tx.held ≡ after.tx.credits → 0 < answer.moved) × (0 < cut → (0 < answer.moved) ⊎ AnsweredZero before.tx.forth after.tx.forth)
+  pub room : answer.need ≡ Room → (paid ≡ 0 → after.tx.held ≡ after.tx.credits → after.tx.back ≡ before.tx.back) × (0 < cut → (0 < answer.moved) ⊎ AnsweredZero before.tx.forth after.tx.forth)
 
 -- A poll met a fault: the first frame that waits was offered where the link was ready; and the link kept the
 -- fault from before and its pipes were left alone, or its pump met it now.

@@ -45,18 +45,19 @@ pub(crate) fn poll_lane<T: NamedTx, R: NamedRx>(
         Ok(moved) => moved,
         Err(bad) => return Err(bad),
     };
-    let lacks = lacks_credit(held, tx.held(), tx.credits());
+    let back = tx.held();
     offer_front(tx, queue);
+    let lacks = lacks_credit(held, back, tx.held(), tx.credits());
     let need = need_of(queue.len() > 0, lacks);
     Ok(Passed { moved, need })
 }
 
-// Whether no credit came back, and as many frames are held as there are credits.
-fn lacks_credit(before: u32, after: u32, credits: u32) -> bool
-    ensures lacks { IsTrue result → (after ≡ before) × (after ≡ credits) }
-    ensures other { result ≡ false → after ≡ before → after ≢ credits }
+// Whether no credit came back of those that could, and as many frames are held now as there are credits.
+fn lacks_credit(before: u32, after: u32, held: u32, credits: u32) -> bool
+    ensures lacks { IsTrue result → (0 < before) × (after ≡ before) × (held ≡ credits) }
+    ensures other { result ≡ false → 0 < before → after ≡ before → held ≢ credits }
 {
-    after == before && after == credits
+    before > 0 && after == before && held == credits
 }
 
 // What the frame that waits needs.

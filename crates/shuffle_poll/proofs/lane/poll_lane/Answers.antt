@@ -1,5 +1,5 @@
 -- A poll offers, pumps and offers.
-use Rattle.std.proofs.Common.{nat_lt, refl, sym, ◌∙◌, subst}
+use Rattle.std.proofs.Common.{arith, nat_lt, refl, sym, ◌∙◌, subst}
 use Rattle.shuffle_poll.specs.declared.needs.Need.{Need}
 use Rattle.shuffle_poll.specs.Lanes.{LaneSeen}
 use Rattle.shuffle_poll.specs.Polling.{LanePolls}
@@ -16,8 +16,11 @@ returns-clause-polls g c =
     subst (λ (need : Need). LanePolls a d c.args.cut (record { moved = c.in-Ok.moved; need = need })) (sym c.need_of-need.ensures)
     (polls a b pumped d c.args.cut c.in-Ok.moved (nat_lt 0 c.len.result) c.lacks_credit-lacks.result
     (record { first = c.offer_front.ensures.offers; pump = c.in-Ok.ensures.moved; queue = refl; second = c.offer_front-2.ensures.offers; stands = c.offer_front-2.ensures.stands; quiet = c.in-Ok.ensures.fault; again = λ bad kept. (c.in-Ok.ensures.again bad kept).1 })
-    (λ yes_it_does. let f = lacks.lacks yes_it_does in (sym c.held.ensures.held ∙ f.0 ∙ c.held-held.ensures.held, sym c.held.ensures.held ∙ f.1 ∙ c.credits.ensures.credits))
-    (λ no_it_does_not same full. lacks.other no_it_does_not (c.held.ensures.held ∙ same ∙ sym c.held-held.ensures.held) (c.held.ensures.held ∙ full ∙ sym c.credits.ensures.credits))
+    (λ yes_it_does.
+    let f = lacks.lacks yes_it_does in
+    (omega (arith, f.0, c.held-held.ensures.held), sym c.held-back.ensures.held ∙ f.1 ∙ c.held-held.ensures.held, sym c.held.ensures.held ∙ f.2 ∙ c.credits.ensures.credits))
+    (λ no_it_does_not some same full.
+    lacks.other no_it_does_not (omega (arith, some, c.held-held.ensures.held)) (c.held-back.ensures.held ∙ same ∙ sym c.held-held.ensures.held) (c.held.ensures.held ∙ full ∙ sym c.credits.ensures.credits))
     (waits_not d.queue c.len.result c.len.ensures.long) (waits_is d.queue c.len.result c.len.ensures.long))
 
 pub returns-in-Err-clause-fails : goal.returns-in-Err-clause-fails
