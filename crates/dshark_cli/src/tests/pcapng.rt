@@ -97,11 +97,13 @@ fn pcapng_and_libpcap_stand_in_one_job(rt: HostRuntime) -> Result<(), Fail> {
     let nanos = packet(alloc, 0, SECOND_IN_NANOS, 64)?;
     let fine = section(alloc, &NANOS, &[nanos.as_slice()])?;
     answers(&rt, alloc, fine.as_slice(), PACKET_LINE, ONE, END)?;
-    assert!(rt; plain.len() == 124);
+    // The file without its last byte.
+    let mut cut = section(alloc, &INTERFACE, &[micros.as_slice()])?;
+    let _last = cut.pop();
     answers(
         &rt,
         alloc,
-        &plain[..123],
+        cut.as_slice(),
         "G 1000010000 s2 0 key=7 n=2 ok\n",
         "records=0 unmatched=0 late=0 accepted=0 cut",
         "groups=1 summaries=2",
