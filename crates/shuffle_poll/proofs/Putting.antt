@@ -1,6 +1,6 @@
 -- Frames are put: the end stays the last on each link.
-use Rattle.std.proofs.Common.{◌≡◌, ◌≢◌, ◌<◌, ◌≤◌, ℕ, ◌⊎◌, ⊎_elim, false, List, [], ◌∷◌, ◌++◌, length, length-append, replicate, slice_get, Some, ap₂, get_or, set, sym, ap, ◌∙◌, subst, arith, append_assoc}
-use Rattle.std.proofs.lemmas.List.{append-nil, length-replicate, get_or-replicate, get_or_past, get_or-set_other, get_or-set_same, get_or_default, length-set}
+use Rattle.std.proofs.Common.{◌≡◌, ◌≢◌, ◌<◌, ◌≤◌, ℕ, ◌⊎◌, ⊎_elim, false, List, [], ◌∷◌, ◌++◌, length, length-append, slice_get, Some, ap₂, get_or, set, sym, ap, ◌∙◌, subst, arith, append_assoc}
+use Rattle.std.proofs.lemmas.List.{get_or-set_other, get_or-set_same, get_or_default, length-set}
 use Rattle.std.proofs.lemmas.Option.{get_or_from_slice_get}
 use Rattle.node_frames.specs.declared.frame.Frame.{Frame}
 use Rattle.credit_link.specs.Frames.{has_finish, FinishIsLast}
@@ -65,24 +65,6 @@ pub same_lane : (links : List TxSeen) (queues : List (List Frame)) (i : ℕ) (d 
     → lane_at links queues i d ≡ record { tx = tx; queue = queue }
 same_lane links queues i d tx queue link there waits =
     ap₂ (λ (t : TxSeen) (q : List Frame). record { tx = t; queue = q }) (get_or_from_slice_get links i tx d link) (get_or_default queues i [] queue there ∙ sym waits)
-
--- nothing waits on a new shuffle
-same_at : (n k : ℕ) (queue : List Frame) → get_or (replicate n queue) k queue ≡ queue
-same_at n k queue =
-    ⊎_elim (λ (before : k < n). get_or-replicate n k queue queue before)
-    (λ (behind : n ≤ k). get_or_past (replicate n queue) k queue (omega (arith, behind, length-replicate n queue))) (before_or_not k n)
-
-pub new_holds : (links : List TxSeen) (queues : List (List Frame)) → queues ≡ replicate (length links) [] → length links ≤ 17 → ((k : ℕ) (d : TxSeen) → k < length links → TxStands (get_or links k d)) → ShuffleHolds links queues
-new_holds links queues none few stand =
-    let empty : (k : ℕ) → get_or queues k [] ≡ [] = λ k. ap (λ (l : List (List Frame)). get_or l k []) none ∙ same_at (length links) k [] in
-    record {
-      as_many = ap (λ (l : List (List Frame)). length l) none ∙ length-replicate (length links) [];
-      few = few;
-      stand = stand;
-      two = λ k. omega (arith, ap length (empty k));
-      last = λ k d there.
-          subst (λ (fs : List Frame). FinishIsLast fs) (sym (ap (λ (q : List Frame). (get_or links k d).offered ++ q) (empty k) ∙ append-nil (get_or links k d).offered)) (stand k d there).sender.last;
-    }
 
 -- a link was shown its rings
 pub shown_holds : (links links' : List TxSeen) (queues : List (List Frame)) (i : ℕ) → ShuffleHolds links queues → length links' ≡ length links → ((d : TxSeen) → links' ≡ set links i (get_or links' i d))
