@@ -112,7 +112,8 @@ impl<T: NamedTx, R: NamedRx> Shuffle<T, R> {
 
     /// How many frames wait.
     pub fn waiting(&self) -> u32
-        ensures { result ≡ sum_by length self.now.queues }
+        ensures count { result ≡ sum_by length self.now.queues }
+        ensures holds { ShuffleHolds self.now.links self.now.queues }
     {
         count_waiting(&self.queues)
     }
@@ -121,6 +122,7 @@ impl<T: NamedTx, R: NamedRx> Shuffle<T, R> {
     pub fn settled(&self) -> bool
         ensures settled { result ≡ true → (k : ℕ) (d : TxSeen) → k < length self.now.links → IsSettled (lane_of self.now k d) }
         ensures not { result ≡ false → (k : ℕ) × (k < length self.now.links) × ((d : TxSeen) → ¬ (IsSettled (lane_of self.now k d))) }
+        ensures holds { ShuffleHolds self.now.links self.now.queues }
     {
         'lanes: for i in 0..self.links.len() {
             if !settled_at(self.links.get(i), &self.queues[i as usize]) {
@@ -132,7 +134,8 @@ impl<T: NamedTx, R: NamedRx> Shuffle<T, R> {
 
     /// The links, with what waited for them dropped.
     pub fn into_links(self) -> LinkTxList<T, R>
-        ensures { result.items ≡ self.links }
+        ensures links { result.items ≡ self.links }
+        ensures holds { ShuffleHolds self.links self.queues }
     {
         let Shuffle { links, queues: _ } = self;
         links
