@@ -6,6 +6,8 @@ mod lane;
 mod needs;
 mod queue;
 mod shuffle;
+#[cfg(test)]
+mod tests;
 
 pub use needs::{Needs, Polled, ShuffleFault};
 pub use shuffle::{NoShuffle, Shuffle};
