@@ -36,7 +36,7 @@ fn add_link(
 }
 
 // A shuffle over so many links of one credit, and their other ends.
-fn shuffle_of(
+pub(super) fn shuffle_of(
     alloc: Global,
     count: u64,
 ) -> Result<(Shuffle<RingTx, RingRx>, LinkRxList<RingRx, RingTx>), OutOfMemory>
@@ -57,7 +57,7 @@ fn shuffle_of(
 }
 
 // Puts a Mark of its own number on a link.
-fn put_mark(shuffle: &mut Shuffle<RingTx, RingRx>, link: u32, n: u64)
+pub(super) fn put_mark(shuffle: &mut Shuffle<RingTx, RingRx>, link: u32, n: u64)
     requires room { (link < length shuffle.old.links) × (length (slice_index_or shuffle.old.queues link []) < 2) }
     requires unfinished { (k : ℕ) (d : TxSeen) → k < length shuffle.old.links → has_finish (put_on (lane_of shuffle.old k d)) ≡ false }
     ensures links { length shuffle.new.links ≡ length shuffle.old.links }
@@ -74,7 +74,10 @@ fn put_mark(shuffle: &mut Shuffle<RingTx, RingRx>, link: u32, n: u64)
 }
 
 // Polls with a cut of 4,096 bytes.
-fn poll(shuffle: &mut Shuffle<RingTx, RingRx>, needs: &mut Needs) -> Result<Polled, ShuffleFault>
+pub(super) fn poll(
+    shuffle: &mut Shuffle<RingTx, RingRx>,
+    needs: &mut Needs,
+) -> Result<Polled, ShuffleFault>
     requires unfinished { (k : ℕ) (d : TxSeen) → k < length shuffle.old.links → has_finish (put_on (lane_of shuffle.old k d)) ≡ false }
     ensures links { length shuffle.new.links ≡ length shuffle.old.links }
     ensures ready { IfOk result (λ polled. polled ≡ Ready → (k : ℕ) → slice_index_or shuffle.new.queues k [] ≡ []) }
@@ -83,7 +86,7 @@ fn poll(shuffle: &mut Shuffle<RingTx, RingRx>, needs: &mut Needs) -> Result<Poll
     shuffle.poll(4096, needs)
 }
 
-const NONE: Needs = Needs {
+pub(super) const NONE: Needs = Needs {
     credit: 0,
     room: 0,
     moved: false,

@@ -7,7 +7,7 @@ use Rattle.credit_link.specs.Ends.{TxSeen}
 use Rattle.credit_link.specs.Frames.{is_finish, has_finish}
 use Rattle.credit_link.proofs.Listed.{finish_one_more}
 use Rattle.shuffle_poll.specs.Lanes.{put_on}
-use Rattle.shuffle_poll.specs.Shuffles.{ShuffleSeen, lane_at, lane_of}
+use Rattle.shuffle_poll.specs.Shuffles.{ShuffleSeen, lane_at}
 use Rattle.shuffle_poll.proofs.tests.shuffles.put_mark.Goals as goal
 
 one_more : (offered queue more : List Frame) (frame : Frame) → has_finish (offered ++ queue) ≡ false → is_finish frame ≡ false → more ≡ queue ++ frame ∷ [] → has_finish (offered ++ more) ≡ false
