@@ -7,7 +7,7 @@ here=$(cd "$(dirname "$0")" && pwd)
 root=$(cd "$here/../.." && pwd)
 copy=$(mktemp -d)
 trap 'rm -rf "$copy"' EXIT
-below='ds_base field_table query_tokens query_syntax query_lang path_judges rewrite_judge job_values summary_spec'
+below='ds_base field_table query_tokens query_syntax query_lang path_judges rewrite_judge job_values job_table job_text summary_spec'
 for crate in $below; do
     mkdir -p "$copy/crates/$crate"
     for part in src specs proofs; do

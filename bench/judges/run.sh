@@ -3,21 +3,22 @@
 # of the crates that it stands on, proves it and runs it. Twice the members may take twice the time, and no more.
 set -e
 here=$(cd "$(dirname "$0")" && pwd)
-crates=$(cd "$here/../../crates" && pwd)
+root=$(cd "$here/../.." && pwd)
 copy=$(mktemp -d)
 trap 'rm -rf "$copy"' EXIT
 for crate in ds_base path_judges rewrite_judge; do
     mkdir -p "$copy/crates/$crate"
     for part in src specs proofs; do
-        [ ! -d "$crates/$crate/$part" ] || cp -r "$crates/$crate/$part" "$copy/crates/$crate/"
+        [ ! -d "$root/crates/$crate/$part" ] || cp -r "$root/crates/$crate/$part" "$copy/crates/$crate/"
     done
+    grep "^$crate:" "$root/crates.txt" >>"$copy/crates.txt"
 done
+echo 'judge_bench: ds_base path_judges rewrite_judge' >>"$copy/crates.txt"
 bench=$copy/crates/judge_bench
 mkdir -p "$bench/src" "$bench/proofs/group" "$bench/proofs/rules"
 cp "$here/judge_bench/main.txt" "$bench/src/main.rt"
 cp "$here/judge_bench/group.txt" "$bench/proofs/group/Invariants.antt"
 cp "$here/judge_bench/rules.txt" "$bench/proofs/rules/Invariants.antt"
-printf '%s\n' 'ds_base:' 'path_judges: ds_base' 'rewrite_judge: ds_base' 'judge_bench: ds_base path_judges rewrite_judge' >"$copy/crates.txt"
-cp "$crates/../HANDLES" "$copy/"
+cp "$root/HANDLES" "$copy/"
 cd "$bench"
 rt run
