@@ -32,4 +32,11 @@ impl<T> GhostList<T> {
     {
         GhostList { of: PhantomData }
     }
+
+    /// This list with further items at its end.
+    pub fn and_all(&self, more: &[T]) -> GhostList<T>
+        ensures { result.items ≡ self.now.items ++ more.now }
+    {
+        GhostList { of: PhantomData }
+    }
 }

@@ -1,0 +1,2 @@
+//! The ends of links as nodes hold them, and the loops over them that all nodes share.
+#![tactic(auto)]
