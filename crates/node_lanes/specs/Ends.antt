@@ -36,21 +36,21 @@ abbrev pub receivers_of : List RxSeen → List Receiver
 receivers_of ins = map receiver_view ins
 
 -- all pipes of the ends tell
-pub record EndsTell (ins : List RxSeen) (links : List TxSeen) : Type 0 where
-  pub ins : All RxTells ins
-  pub outs : All TxTells links
+pub record EndsTell (receiving : List RxSeen) (sending : List TxSeen) : Type 0 where
+  pub ins : All RxTells receiving
+  pub outs : All TxTells sending
 
 -- ---- what stands between turns
 
 -- the links in: each is sound, and has so many credits
-pub record InsStand (credits : ℕ) (ins : List RxSeen) : Type 0 where
+pub record InsStand (number : ℕ) (ins : List RxSeen) : Type 0 where
   pub stand : All RxStands ins
-  pub credits : All (λ (r : RxSeen). r.credits ≡ credits) ins
+  pub credits : All (λ (r : RxSeen). r.credits ≡ number) ins
 
 -- the links out
-pub record OutsStand (credits : ℕ) (outs : ShuffleSeen) : Type 0 where
+pub record OutsStand (number : ℕ) (outs : ShuffleSeen) : Type 0 where
   pub holds : ShuffleHolds outs.links outs.queues
-  pub credits : All (λ (l : TxSeen). l.credits ≡ credits) outs.links
+  pub credits : All (λ (l : TxSeen). l.credits ≡ number) outs.links
 
 -- after a turn that gave no fault: no end has met one, and each frame taken was granted
 pub record InsAreQuiet (ins : List RxSeen) : Type 0 where
