@@ -1,5 +1,5 @@
 -- The two ends of a link: what was received is a prefix of what was sent.
-use Rattle.std.proofs.Common.{◌≡◌, ◌≢◌, ◌<◌, ◌≤◌, ℕ, zero, suc, ◌+◌, ◌^◌, Bool, true, false, ◌||◌, IsTrue, List, [], ◌∷◌, ◌++◌, length, take, drop, replicate, refl, sym, ap, ◌∙◌, subst, inl, inr, ⊎_elim, arith, append_assoc, length-append, take_at, drop_at}
+use Rattle.std.proofs.Common.{◌≡◌, ◌≢◌, ◌<◌, ◌≤◌, ℕ, zero, suc, ◌+◌, ◌^◌, Bool, true, false, ◌||◌, IsTrue, List, [], ◌∷◌, ◌++◌, None, length, take, drop, replicate, refl, sym, ap, ◌∙◌, subst, inl, inr, ⊎_elim, arith, append_assoc, length-append, take_at, drop_at}
 use Rattle.std.proofs.lemmas.List.{length-drop, length-replicate, drop-append-le, take-append-le}
 use Rattle.sha2.specs.Sha256.{sha256}
 use Rattle.byteorder.specs.Endian.{big_from}
@@ -184,11 +184,11 @@ pub record Credits (tx : TxSeen) (rx : RxSeen) : Type 0 where
   pub more : tx.repaid ≤ rx.paid
   pub frames : (tx.held + tx.repaid ≡ length tx.offered) × (rx.paid + rx.owed + rx.ungranted ≡ length rx.given) × (length rx.given ≤ length tx.offered)
 
-credits : (tx : TxSeen) (rx : RxSeen) → AreJoined tx rx → Credits tx rx
-credits tx rx j =
+credits : (tx : TxSeen) (rx : RxSeen) → AreJoined tx rx → tx.fault ≡ None → Credits tx rx
+credits tx rx j quiet =
     let given = given_counted tx rx j in
     let sent = j.receiving.pipes.paid given.1 j.told.3 in
-    let taken = j.sending.pipes.repaid j.counted j.told.1 j.quiet in
+    let taken = j.sending.pipes.repaid j.counted j.told.1 quiet in
     record {
       sent = sent;
       taken = taken;
@@ -197,14 +197,14 @@ credits tx rx j =
     }
 
 pub owed_are_held : OwedAreHeld
-owed_are_held tx rx j =
-    let c = credits tx rx j in
+owed_are_held tx rx j quiet =
+    let c = credits tx rx j quiet in
     let held : rx.owed ≤ tx.held = omega (arith, c.more, c.frames.0, c.frames.1, c.frames.2) in
     (held, omega (arith, held, j.sending.sender.within))
 
 pub each_byte_is_a_credit : EachByteIsACredit
-each_byte_is_a_credit tx after rx more bad j e none_there =
-    let c = credits tx rx j in
+each_byte_is_a_credit tx after rx more bad j quiet e none_there =
+    let c = credits tx rx j quiet in
     let tail : List ℕ = none_there.rest ++ more in
     let ones : List ℕ = replicate none_there.taken 1 in
     let split : replicate rx.paid 1 ≡ (tx.back.bytes ++ ones) ++ none_there.got ∷ tail =

@@ -22,13 +22,12 @@ pub record IsNewLink (credits : ℕ) (tx : TxSeen) (rx : RxSeen) : Type 0 where
   pub sending : tx ≡ tx_of (new_sender credits) (fresh 4096) (fresh 0) tx.forth_name tx.back_name
   pub receiving : rx ≡ rx_of (new_receiver credits) (fresh 0) (fresh credits) rx.forth_name rx.back_name
 
--- what was received is a prefix of what was sent, on both pipes of a link that met no fault
+-- what was received is a prefix of what was sent, on both pipes of a link
 pub record AreJoined (tx : TxSeen) (rx : RxSeen) : Type 0 where
   pub sending : TxStands tx
   pub receiving : RxStands rx
   pub told : IsTrue tx.forth.told × IsTrue tx.back.told × IsTrue rx.forth.told × IsTrue rx.back.told
   pub counted : IsCounted tx.offered
-  pub quiet : tx.fault ≡ None
   pub bytes : (more : List ℕ) × (tx.forth.bytes ≡ rx.forth.bytes ++ more)
   pub credits : (more : List ℕ) × (rx.back.bytes ≡ tx.back.bytes ++ more)
 
@@ -42,10 +41,11 @@ FramesAreAPrefix = (tx : TxSeen) (rx : RxSeen) → AreJoined tx rx → (later : 
 abbrev pub NoFaultStandsNext : Type 0
 NoFaultStandsNext = (tx : TxSeen) (rx : RxSeen) (bad : LinkBad) → AreJoined tx rx → ¬ (MeetsBad rx.given rx.finished rx.box bad)
 
--- each byte that comes over the credit pipe is a credit
+-- each byte that comes over the credit pipe is a credit, where the sending end has met no fault
 abbrev pub EachByteIsACredit : Type 0
-EachByteIsACredit = (tx after : TxSeen) (rx : RxSeen) (more : List ℕ) (bad : LinkBad) → AreJoined tx rx → rx.back.bytes ≡ after.back.bytes ++ more → ¬ (TakesNoCredit tx after bad)
+EachByteIsACredit = (tx after : TxSeen) (rx : RxSeen) (more : List ℕ) (bad : LinkBad) → AreJoined tx rx → tx.fault ≡ None
+    → rx.back.bytes ≡ after.back.bytes ++ more → ¬ (TakesNoCredit tx after bad)
 
--- no more credits are owed than frames are held, of which there are no more than credits
+-- there, no more credits are owed than frames are held, of which there are no more than credits
 abbrev pub OwedAreHeld : Type 0
-OwedAreHeld = (tx : TxSeen) (rx : RxSeen) → AreJoined tx rx → (rx.owed ≤ tx.held) × (rx.owed ≤ tx.credits)
+OwedAreHeld = (tx : TxSeen) (rx : RxSeen) → AreJoined tx rx → tx.fault ≡ None → (rx.owed ≤ tx.held) × (rx.owed ≤ tx.credits)
