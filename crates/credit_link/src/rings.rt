@@ -36,7 +36,8 @@ pub fn ring_link(
 
 impl LinkTx<RingTx, RingRx> {
     /// Shows both ends of a link over rings every byte and every free place of its two rings, so that both
-    /// are sure of all of them. The ends were made by one call of `ring_link`. It moves no byte.
+    /// are sure of all of them. The ends were made by one call of `ring_link`. It moves no byte. No end of a
+    /// ring has ever failed.
     pub fn beside(&mut self, rx: &mut LinkRx<RingRx, RingTx>)
         requires { AreOneLink self.old rx.old }
         ensures tx { self.new ≡ record self.old { forth = self.new.forth; back = self.new.back } }
@@ -44,6 +45,7 @@ impl LinkTx<RingTx, RingRx> {
         ensures tx_looks { Looks self.old.forth self.new.forth × Looks self.old.back self.new.back }
         ensures rx_looks { Looks rx.old.forth rx.new.forth × Looks rx.old.back rx.new.back }
         ensures data_ring { IsOnRing self.new.forth_name.capacity self.new.forth rx.new.forth }
+        ensures calm { (self.new.forth.faults ≡ 0) × (self.new.back.faults ≡ 0) × (rx.new.forth.faults ≡ 0) × (rx.new.back.faults ≡ 0) }
         ensures credit_ring { IsOnRing self.new.back_name.capacity rx.new.back self.new.back }
     {
         look(&mut self.forth, &mut rx.forth);

@@ -46,12 +46,13 @@ row_of tx from to taken = record { from = from; to = to; sent = capped (length t
 abbrev pub IsSettled : LaneSeen → Type 0
 IsSettled lane = (lane.queue ≡ []) × (lane.tx.left ≡ []) × (lane.tx.held ≡ 0)
 
--- both ends of a link were shown its two rings, and nothing moved
+-- both ends of a link were shown its two rings, and nothing moved; no end of a ring has ever failed
 pub record Shows (tx tx' : TxSeen) (rx rx' : RxSeen) : Type 0 where
   pub sending : tx' ≡ record tx { forth = tx'.forth; back = tx'.back }
   pub receiving : rx' ≡ record rx { forth = rx'.forth; back = rx'.back }
   pub tx_looks : Looks tx.forth tx'.forth × Looks tx.back tx'.back
   pub rx_looks : Looks rx.forth rx'.forth × Looks rx.back rx'.back
+  pub calm : (tx'.forth.faults ≡ 0) × (tx'.back.faults ≡ 0) × (rx'.forth.faults ≡ 0) × (rx'.back.faults ≡ 0)
   pub data_ring : IsOnRing tx'.forth_name.capacity tx'.forth rx'.forth
   pub credit_ring : IsOnRing tx'.back_name.capacity rx'.back tx'.back
 
