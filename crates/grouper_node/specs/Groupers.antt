@@ -55,6 +55,7 @@ pub record GrouperGoes (before after : GrouperSeen) : Type 0 where
   pub same : (after.job ≡ before.job) × (after.me ≡ before.me) × (after.groupers ≡ before.groupers) × (after.credits ≡ before.credits)
   pub ins : InsGo before.ins after.ins
   pub outs : OutsGo before.outs after.outs
+  pub kept : (bad : NodeFault) → before.fault ≡ Some bad → after.fault ≡ Some bad
 
 -- why a turn gave a fault for the first time: links in are counted first, and links out behind them
 abbrev pub GrouperMeets : (before after : GrouperSeen) → NodeFault → Type 0

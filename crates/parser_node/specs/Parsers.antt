@@ -134,6 +134,7 @@ pub record ParserGoes (before after : ParserSeen) : Type 0 where
   pub sources : (i : ℕ) (d : SourceSeen) → i < length before.sources → SourceStays (slice_index_or before.sources i d) (slice_index_or after.sources i d)
   pub reads : (i : ℕ) → i < length before.reads → ReadingGoes (slice_index_or before.reads i unread) (slice_index_or after.reads i unread)
   pub outs : OutsGo before.outs after.outs
+  pub kept : (bad : NodeFault) → before.fault ≡ Some bad → after.fault ≡ Some bad
 
 -- the capture is malformed: whatever follows what was read, or at its end
 abbrev pub IsMalformed : Declared → (capture : ℕ) → Reading → Bad → Type 0

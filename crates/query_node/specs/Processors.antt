@@ -53,6 +53,7 @@ pub record ProcessorGoes (before after : ProcessorSeen) : Type 0 where
   pub same : (after.job ≡ before.job) × (after.credits ≡ before.credits)
   pub ins : InsGo before.ins after.ins
   pub outs : OutsGo before.outs after.outs
+  pub kept : (bad : NodeFault) → before.fault ≡ Some bad → after.fault ≡ Some bad
 
 -- why a turn gave a fault for the first time: links in are counted first, and the link out behind them
 abbrev pub ProcessorMeets : (before after : ProcessorSeen) → NodeFault → Type 0

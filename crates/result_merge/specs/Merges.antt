@@ -74,6 +74,7 @@ pub record MergeGoes (before after : MergeSeen) : Type 0 where
   pub gained : IsFront before.gained after.gained
   pub written : SinkGains before after
   pub calm : after.fault ≡ None → after.sink.faults ≡ before.sink.faults
+  pub kept : (bad : NodeFault) → before.fault ≡ Some bad → after.fault ≡ Some bad
 
 -- why a turn gave a fault for the first time
 abbrev pub MergeMeets : (before after : MergeSeen) → NodeFault → Type 0
