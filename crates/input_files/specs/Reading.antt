@@ -58,6 +58,12 @@ abbrev pub Reads : Reading → Reading → SourceSeen → SourceSeen → Piece �
 Reads old new before after More = (after.faults ≡ before.faults) × ReadsMore old new before after
 Reads old new before after End = (after.faults ≡ before.faults) × ReadsEnd old new before after
 
+-- the same, where the bytes read so far are noted: those of the piece stand at the end of the notes
+abbrev pub ReadsNoted : Reading → Reading → SourceSeen → SourceSeen → (noted noted' : List ℕ) → Piece → Type 0
+ReadsNoted old new before after noted noted' More =
+    (after.faults ≡ before.faults) × ((more : ReadsMore old new before after) × (noted' ≡ noted ++ more.piece))
+ReadsNoted old new before after noted noted' End = (after.faults ≡ before.faults) × ReadsEnd old new before after × (noted' ≡ noted)
+
 -- Why nothing was read, and what stays: the reading is as it was. After a failed read what was read and what is
 -- left are the file as before; where there was no memory for a piece, it was taken of the source and is lost.
 abbrev pub StopsPiece : Reading → Reading → SourceSeen → SourceSeen → FileFault → Type 0

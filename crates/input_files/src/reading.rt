@@ -1,6 +1,6 @@
 //! The reading of a capture piece by piece.
 
-ghost use Rattle.std.specs.Prelude.{◌≡◌, ◌<◌, ◌^◌, ℕ, List, [], ⊤, length, Option, Some, None, IfOk, IfErr, IfSome, IfNone, MatchResult, true, false};
+ghost use Rattle.std.specs.Prelude.{◌≡◌, ◌<◌, ◌^◌, ℕ, List, [], ⊤, length, Option, Some, None, IfOk, IfErr, IfSome, IfNone, MatchResult, OnErr, true, false};
 ghost use Rattle.std.specs.Borrow.{sem};
 ghost use Rattle.ds_base.specs.Outside.{SourceSeen, SourceStays, IsFresh};
 ghost use Rattle.pcap_reader.specs.Captured.{Captured};
@@ -8,10 +8,11 @@ ghost use Rattle.pcap_reader.specs.Format.{is_short_header};
 ghost use Rattle.pcap_reader.specs.Good.{good};
 ghost use Rattle.pcap_reader.specs.Lent.{captured, IsLawful};
 ghost use Rattle.pcap_reader.specs.Reader.{StandsFor, IsWaiting, bytes_held};
-ghost use Rattle.input_files.specs.Reading.{Reading, HasRead, Reads, StopsPiece, GivesOf, bytes_read, records_read};
+ghost use Rattle.input_files.specs.Reading.{Reading, HasRead, Reads, ReadsNoted, StopsPiece, GivesOf, bytes_read, records_read};
 
 use crate::fault::FileFault;
 use ds_base::{Bad, OutOfMemory, Source, Tail};
+use ghost_list::GhostList;
 use pcap_reader::{PcapReader, RecordRef};
 use std::alloc::Global;
 use std::marker::Model;
@@ -77,13 +78,30 @@ impl CaptureReading {
     ///
     /// `Unread` where the read failed: all stays, and it may be tried again. `OutOfMemory` where there was no
     /// memory for the piece: the reading stays as it was, and the piece is lost.
-    #[tactic(auto, using(crate::proofs::Less::less_left))]
     pub fn read<S: Source>(&mut self, source: &mut S) -> Result<Piece, FileFault>
         requires { bytes_read self.old < 2 ^ 61 }
         ensures stays { SourceStays (S.seen source.old) (S.seen source.new) }
         ensures ends { MatchResult result
             (Reads self.old self.new (S.seen source.old) (S.seen source.new))
             (StopsPiece self.old self.new (S.seen source.old) (S.seen source.new)) }
+    {
+        let mut unseen: GhostList<u8> = GhostList::new();
+        self.read_noted(source, &mut unseen)
+    }
+
+    /// The same, and notes the bytes that were read for contracts.
+    #[tactic(auto, using(crate::proofs::Less::less_left))]
+    pub fn read_noted<S: Source>(
+        &mut self,
+        source: &mut S,
+        noted: &mut GhostList<u8>,
+    ) -> Result<Piece, FileFault>
+        requires { bytes_read self.old < 2 ^ 61 }
+        ensures stays { SourceStays (S.seen source.old) (S.seen source.new) }
+        ensures ends { MatchResult result
+            (ReadsNoted self.old self.new (S.seen source.old) (S.seen source.new) noted.old.items noted.new.items)
+            (StopsPiece self.old self.new (S.seen source.old) (S.seen source.new)) }
+        ensures unnoted { OnErr result (noted.new.items ≡ noted.old.items) }
     {
         let Ok(n) = source.read(self.buffer.as_mut_slice()) else {
             return Err(FileFault::Unread);
@@ -94,6 +112,7 @@ impl CaptureReading {
         let Ok(()) = self.reader.feed(&self.buffer[..n]) else {
             return Err(FileFault::OutOfMemory);
         };
+        *noted = noted.and_all(&self.buffer[..n]);
         Ok(Piece::More)
     }
 
