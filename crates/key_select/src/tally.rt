@@ -7,6 +7,7 @@ ghost use Rattle.pcap_reader.specs.Lent.{captured, IsLawful};
 ghost use Rattle.summary_spec.specs.Declaration.{Declared};
 ghost use Rattle.summary_spec.specs.Job.{declared_of};
 ghost use Rattle.key_select.specs.Fates.{accepted_after, counts_of};
+ghost use Rattle.key_select.specs.Late.{mark_of};
 
 use crate::late::is_late;
 use crate::summary::select_at;
@@ -97,6 +98,18 @@ impl Tally {
         ensures { result ≡ newest_of self.now }
     {
         self.newest
+    }
+
+    /// The greatest adjusted time of these records less the capture's skew, never below 0, and 0 where there was
+    /// none: no record that is accepted later has an earlier time.
+    pub fn mark(&self) -> u64
+        ensures mark { (job : Declared) (capture : ℕ) (taken : List Captured) → Tallies job capture self.now taken → result ≡ mark_of job capture taken }
+        ensures early { result < 2 ^ 63 }
+    {
+        match self.newest {
+            None => 0,
+            Some(newest) => newest.saturating_sub(self.skew),
+        }
     }
 
     /// How the records fared; `cut` says whether the file ends inside a record.
