@@ -6,7 +6,7 @@ use Rattle.ds_base.specs.Outside.{SourceSeen, SourceStays}
 use Rattle.ds_base.specs.declared.capture.Bad.{Bad}
 use Rattle.ds_base.specs.declared.capture.Tail.{Tail}
 use Rattle.pcap_reader.specs.Captured.{Captured}
-use Rattle.pcap_reader.specs.Reader.{Reader, StandsFor}
+use Rattle.pcap_reader.specs.Reader.{StandsFor}
 use Rattle.input_files.specs.Reading.{Reading, HasRead}
 
 pub more_read : (old new : Reading) (before after : SourceSeen) (piece : List ℕ) → SourceStays before after

@@ -50,10 +50,10 @@ pub record IsWritten (old : Printer) (before after : SinkSeen) (more : List ℕ)
   pub faults : after.faults ≡ before.faults
   pub whole : (start text : List ℕ) → HasPrinted start before old.text.items text → IsTrue before.told → after.written ≡ start ++ (text ++ more)
 
--- Why it was not: a failed write, or no memory.
+-- Why it was not: a failed write, or no memory, and then no write failed.
 abbrev pub StopsPrint : SinkSeen → SinkSeen → PrintFault → Type 0
 StopsPrint before after print.Unwritten = Rose before.faults after.faults
-StopsPrint before after print.OutOfMemory = Unit {0}
+StopsPrint before after print.OutOfMemory = after.faults ≡ before.faults
 
 -- ---- of a source
 
@@ -69,13 +69,13 @@ pub record IsReadTo (asking : Asking) (before after : SourceSeen) (reading : Rea
   pub whole : IsTrue before.told → before.whole ≡ given
 
 -- Why it was not: the first malformed place, before which all lines were written, a failed read, a failed
--- write, or no memory.
+-- write, or no memory, and then nothing failed.
 abbrev pub StopsReadTo : Asking → SourceSeen → SourceSeen → SinkSeen → SinkSeen → StackFault → Type 0
 StopsReadTo asking before after old new (Capture (Malformed at what)) = (after.faults ≡ before.faults)
     × (IsTrue before.told → (good None before.whole).bad ≡ Some (bad_at at what))
     × (IsTrue before.told → IsTrue old.told → new.written ≡ old.written ++ lines_by asking (good None before.whole).records)
 StopsReadTo asking before after old new (Capture Unread) = Rose before.faults after.faults
-StopsReadTo asking before after old new (Capture OutOfMemory) = Unit {0}
+StopsReadTo asking before after old new (Capture OutOfMemory) = (after.faults ≡ before.faults) × (new.faults ≡ old.faults)
 StopsReadTo asking before after old new Unwritten = Rose old.faults new.faults
 
 -- The lines of all that the source gave were written, and it is not malformed; where it tells, that is the
@@ -98,11 +98,11 @@ pub record PrintsFile (asking : Asking) (name : List ℕ) (before after : Folder
   pub whole : IsTrue before.told → IsTrue old.told → new.written ≡ old.written ++ lines_in before asking name
 
 -- Why they were not all written: the first malformed place, before which all lines were written, a file that was
--- not read, a failed write, or no memory.
+-- not read, a failed write, or no memory, and then nothing failed.
 abbrev pub StopsFile : Asking → (name : List ℕ) → FolderSeen → FolderSeen → SinkSeen → SinkSeen → StackFault → Type 0
 StopsFile asking name before after old new (Capture (Malformed at what)) = (after.faults ≡ before.faults)
     × (IsTrue before.told → IsMalformed before name at what)
     × (IsTrue before.told → IsTrue old.told → new.written ≡ old.written ++ lines_in before asking name)
 StopsFile asking name before after old new (Capture Unread) = IsTrue before.told → IsUnread before after name
-StopsFile asking name before after old new (Capture OutOfMemory) = Unit {0}
+StopsFile asking name before after old new (Capture OutOfMemory) = (after.faults ≡ before.faults) × (new.faults ≡ old.faults)
 StopsFile asking name before after old new Unwritten = Rose old.faults new.faults

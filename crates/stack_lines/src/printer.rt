@@ -4,6 +4,7 @@ ghost use Rattle.std.specs.Prelude.{◌≡◌, ◌≤◌, ◌++◌, [], ℕ, Lis
 ghost use Rattle.ds_base.specs.Outside.{SinkStays};
 ghost use Rattle.pcap_reader.specs.Lent.{captured};
 ghost use Rattle.stack_lines.specs.Stacks.{stack_line, last_line};
+ghost use Rattle.stack_lines.specs.declared.fault.PrintFault.TheVariants.{Unwritten};
 
 use crate::fault::PrintFault;
 use crate::line::{Asking, push_last_line, push_line};
@@ -76,8 +77,9 @@ impl Printer {
         Ok(())
     }
 
-    /// Writes all that waits.
+    /// Writes all that waits. It takes no memory.
     pub fn write<O: Sink>(&self, out: &mut O) -> Result<(), PrintFault>
+        ensures refused { IfErr result (λ fault. fault ≡ Unwritten) }
         ensures stays { SinkStays (O.seen out.old) (O.seen out.new) }
         ensures prefix { (start text : List ℕ) → HasPrinted start (O.seen out.old) self.now.text.items text → HasBegun start (O.seen out.new) text }
         ensures ends { MatchResult result

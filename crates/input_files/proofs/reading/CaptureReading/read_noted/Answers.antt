@@ -1,4 +1,4 @@
-use Rattle.std.proofs.Common.{rules, ℕ, List, ◌+◌, ◌≡◌, ◌∙◌, ◌++◌, ◌<◌, ◌≤◌, ◌^◌, refl, sym, ap, subst, length, take, drop, arith, Option, length-take}
+use Rattle.std.proofs.Common.{rules, ℕ, List, ◌+◌, ◌≡◌, ◌∙◌, ◌++◌, ◌<◌, ◌≤◌, sym, ap, subst, length, take, arith, Option, length-take}
 use Rattle.std.specs.Prelude.{IsTrue}
 use Rattle.ds_base.specs.Outside.{SourceSeen}
 use Rattle.pcap_reader.specs.Captured.{Captured}
