@@ -103,6 +103,14 @@ impl Receiver {
         self.owed
     }
 
+    /// Whether the link's end was given.
+    pub(crate) fn finished(&self) -> bool
+        ensures finished { result ≡ self.now.finished }
+        ensures stands { ReceiverStands self.now }
+    {
+        self.finished
+    }
+
     /// How many frames were given, up to the end of the type.
     pub(crate) fn taken(&self) -> u64
         ensures { result ≡ capped (length self.now.given) }

@@ -106,6 +106,14 @@ impl<R: NamedRx, T: NamedTx> LinkRx<R, T> {
         self.receiver.taken()
     }
 
+    /// Whether its `Finish` was pulled.
+    pub fn finished(&self) -> bool
+        ensures finished { result ≡ self.now.finished }
+        ensures stands { RxStands self.now }
+    {
+        self.receiver.finished()
+    }
+
     /// How many credits were granted that have not gone into the credit pipe.
     pub fn owed(&self) -> u64
         ensures owed { result ≡ self.now.owed }
