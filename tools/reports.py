@@ -9,6 +9,7 @@ import os
 import re
 import sys
 from collections import Counter, defaultdict, namedtuple
+from datetime import datetime, timezone
 
 NAME = "([A-Za-z_][A-Za-z0-9_]{0,31})"
 DIGITS = "(?:0|[1-9][0-9]{0,38})"
@@ -26,6 +27,7 @@ FORMS = {
 }
 VERDICT = "|".join(["(ok|undefined)", f"(loop) {NAME} {NUMBER} {NUMBER}", f"(drop) {NAME}", f"(path|value) {NUMBER}",
                     f"(rewrite) {NUMBER} {NUMBER}"])
+PLACES = {"loop": 0, "drop": 0, "path": 0, "rewrite": 1}  # which of the words of a verdict says where
 KINDS = ("ok", "loop", "drop", "path", "rewrite", "value", "undefined")
 
 Delays = namedtuple("Delays", "line start end count sum least greatest classes")
@@ -44,6 +46,7 @@ class Report:
     def __init__(self, lines, keeps=lambda group: False):
         self.keeps, self.kept = keeps, []
         self.verdicts = defaultdict(Counter)  # of each first capture, how many of each kind
+        self.places = Counter()  # how many of each kind at each place: a capture, or the n of a path, or a rule
         self.delays, self.captures = [], []
         self.groups = self.summaries = 0
         self.named = {}  # the first line that names a capture
@@ -96,6 +99,7 @@ class Report:
         self.summaries += self.number(members)
         group = Group(self.line, int(time), first, int(record), [int(number) for number in key.split(",")], int(members),
                       kind, [int(other) if other.isdigit() else other for other in others])
+        self.places[kind, group.words[PLACES[kind]] if kind in PLACES else None] += 1
         if self.keeps(group):
             self.kept.append(group)
 
@@ -142,6 +146,11 @@ class Report:
             verdicts = self.verdicts.get(capture.name)
             if verdicts:
                 yield capture.name, {kind: verdicts[kind] for kind in KINDS if kind in verdicts}
+
+
+def utc(time):
+    """A time in nanoseconds as ISO 8601."""
+    return f"{datetime.fromtimestamp(time // 10**9, timezone.utc):%Y-%m-%dT%H:%M:%S}.{time % 10**9:09}Z"
 
 
 def read_report(name, keeps=lambda group: False):
