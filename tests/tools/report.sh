@@ -9,6 +9,7 @@ command -v python3 >/dev/null || { echo 'tests/tools/report.sh: skipped: python3
 room=$(mktemp -d) || exit 2
 trap 'rm -rf "$room"' EXIT
 network=samples/network
+tool=$PWD/tools/report
 passed=0
 failed=0
 
@@ -16,7 +17,7 @@ ends() { # WHAT STATUS EXPECTED WORD..
     local what=$1 status=$2 ended
     printf '%s\n' "$3" >"$room/expected"
     shift 3
-    tools/report "$@" >"$room/printed" 2>&1
+    "$tool" "$@" >"$room/printed" 2>&1
     ended=$?
     if [ "$ended" -eq "$status" ] && cmp -s "$room/expected" "$room/printed"; then
         passed=$((passed + 1))
@@ -150,6 +151,26 @@ PROGRAM
 wrong=$?
 failed=$((failed + wrong))
 passed=$((passed + 10 - wrong))
+
+# The copies of a packet, where the program is built: their times are those of samples/network/make_network.py.
+program=${DSHARK:-crates/dshark_cli/out/dshark_cli}
+if [ -x "$program" ]; then
+    DSHARK=$(realpath "$program")
+    export DSHARK
+    cd "$network" || exit 2
+    ends 'the copies of a packet' 0 's1 record 3 +0 ns s1.pcap frame 4
+s2 record 2 +40510 ns s2.pcap frame 3
+s3 record 2 +103930 ns s3.pcapng frame 3
+s2 record 4 +170000 ns s2.pcap frame 5
+s3 record 4 +235215 ns s3.pcapng frame 5
+s4 record 2 +294000 ns s4.pcap frame 3' --members 3 --job job.json job.report
+    ends 'the copies on an interface' 0 'back record 0 +0 ns s3.pcapng frame 7
+both record 6 +0 ns s3.pcapng frame 7' --members "$(grep -n ' back 0 ' interfaces.report | cut -d : -f 1)" --job interfaces.json interfaces.report
+    ends 'a line of no packet' 1 'report: line 8 is no G line' --members 8 --job job.json job.report
+    ends 'captures of another report' 1 'report: line 1: the packet has 4 copies, and the captures of the job have 2: are they those of the report?' \
+        --members 1 --job interfaces.json job.report
+    ends 'a job that is refused' 1 'report: job.report: job: whole[0]: not json (explain job.report shows the place)' --members 1 --job job.report job.report
+fi
 
 echo "tests/tools/report.sh: $passed passed, $failed failed"
 [ "$failed" -eq 0 ]
