@@ -123,8 +123,12 @@ ends 'a missing file' 1 '' "plot-report: [Errno 2] No such file or directory: '$
 # A folder in which matplotlib is there and cannot be loaded.
 mkdir "$room/without"
 echo 'raise ImportError' >"$room/without/matplotlib.py"
-ends 'no matplotlib' 2 '' 'plot-report: matplotlib is missing: a picture needs it, --summary does not' \
+ends 'no matplotlib' 2 '' 'plot-report: matplotlib is missing: install it (apt-get install python3-matplotlib, or python3 -m pip install matplotlib); --summary does without' \
     env PYTHONPATH="$room/without" tools/plot-report --out "$room/none.png" "$report"
+
+# Its reader may end early.
+(tools/plot-report --summary "$report") 2>"$room/line" | true
+if [ -s "$room/line" ]; then failed=$((failed + 1)) && echo "FAILED a closed pipe: $(cat "$room/line")"; else passed=$((passed + 1)); fi
 
 drawn=no
 for python in python3 /usr/bin/python3; do
