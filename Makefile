@@ -16,7 +16,7 @@ ROOT = $(DESTDIR)$(PREFIX)
 SHARE = share/dshark
 DOCUMENTS = share/doc/dshark
 COMPLETIONS = share/bash-completion/completions share/zsh/site-functions share/fish/vendor_completions.d
-TOOLS = tools/preflight tools/explain tools/report tools/plot-report
+TOOLS = tools/preflight tools/explain tools/report tools/plot-report tools/shard tools/merge-reports
 
 .PHONY: demo try test install uninstall
 
