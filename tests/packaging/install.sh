@@ -37,9 +37,9 @@ expected() {
     echo share/zsh/site-functions/_dshark
     echo share/fish/vendor_completions.d/dshark.fish
     echo share/dshark/job.schema.json
-    printf 'share/doc/dshark/%s\n' README.md CHANGELOG.md CONTRIBUTING.md SECURITY.md docs/*.md
-    find samples -type f | sed 's|^|share/dshark/|'
-    find tools -maxdepth 1 -type f ! -name believed ! -name make-completions | sed 's|^|share/dshark/|'
+    printf 'share/doc/dshark/%s\n' README.md CHANGELOG.md CONTRIBUTING.md SECURITY.md LICENSE docs/*.md
+    find samples -type f ! -path 'samples/site/*.pcap*' ! -name planted.json ! -name '*.pyc' | sed 's|^|share/dshark/|'
+    find tools -maxdepth 1 -type f ! -name believed ! -name make-completions ! -name '*.pyc' | sed 's|^|share/dshark/|'
 }
 is 'what is installed' "$(expected | sort)" "$(cd "$room/root/opt/a" && find . -type f | sed 's|^\./||' | sort)"
 is 'the program' dshark "$("$room/root/opt/a/bin/dshark")"
