@@ -27,7 +27,9 @@ network=samples/network
 ends 'two shares' 0 '' tools/shard --folder "$room" $network/job.json 2
 for share in 0 1; do (cd $network && "$DSHARK" central "$room/job.$share-of-2.json") >"$room/$share"; done
 ends 'their reports' 0 '' tools/merge-reports "$room/1" "$room/0"
-ends 'one share twice' 1 'merge-reports: two reports have the packet G 1700000000100000 s1 2: is a share given twice?' \
+ends 'one share twice' 1 'merge-reports: two reports have the packet G 1700000000000100000 s1 2: is a share given twice?' \
+    tools/merge-reports "$room/0" "$room/0"
+ends 'more records than there are' 1 'merge-reports: s1 has 8 records, and the shares have 10 of them: is one given twice?' \
     tools/merge-reports "$room/0" "$room/1" "$room/0"
 sed 's/s1/s9/g' "$room/0" >"$room/other"
 ends 'other captures' 1 'merge-reports: 1 and other are not of the same captures' tools/merge-reports "$room/1" "$room/other"
@@ -36,6 +38,8 @@ ends 'another number of records' 1 'merge-reports: 1 and more differ in the reco
     tools/merge-reports "$room/1" "$room/more"
 ends 'no report' 1 'merge-reports: job.0-of-2.json: line 1: it begins with none of '"'G ', 'P ', 'C ' and 'E '" \
     tools/merge-reports "$room/job.0-of-2.json"
+mkfifo "$room/pipe"
+ends 'a pipe' 1 'merge-reports: pipe is no file, and it is read more than once' tools/merge-reports "$room/0" "$room/pipe"
 ends 'a missing report' 1 "merge-reports: [Errno 2] No such file or directory: 'none'" tools/merge-reports "$room/none"
 python3 - "$room" <<'PROGRAM'
 import json, sys
@@ -55,6 +59,7 @@ if ls "$room"/*-of-3.json >/dev/null 2>&1; then failed=$((failed + 1)) && echo '
 tools/shard $network/job.json 0 >/dev/null 2>&1
 [ $? -eq 2 ] && passed=$((passed + 1)) || { failed=$((failed + 1)); echo 'FAILED: 0 shares are not refused with 2'; }
 
-python3 tests/tools/shares.py "$DSHARK" "$room" && passed=$((passed + 1)) || failed=$((failed + 1))
+mkdir "$room/jobs"
+python3 tests/tools/shares.py "$DSHARK" "$room/jobs" && passed=$((passed + 1)) || failed=$((failed + 1))
 echo "tests/tools/shares.sh: $passed passed, $failed failed"
 [ "$failed" -eq 0 ]
