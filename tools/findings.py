@@ -3,6 +3,7 @@
 from collections import Counter, defaultdict
 
 HOUR = 3_600_000_000_000  # the longest skew, in nanoseconds
+FAR = 0.25  # between the parts of records in which two captures take a variable from one field
 FEW = 0.5  # of its keys; a capture that shares less with every other has no copies, or no such key
 
 
@@ -91,17 +92,39 @@ def look_at_variables(points, job, taken):
                        f"not tell these apart, {rest}")
 
 
+def look_at_sources(points, job, taken):
+    """Variables that one capture takes from another field than the others do."""
+    for var in (var for var in job["vars"] if len(var["take"]) > 1):
+        shares = {}
+        for point in points:
+            column = point.take(var["take"])
+            fields = Counter(column[of.record][1] for of in taken[point.name] if column[of.record] is not None)
+            if fields:
+                shares[point.name] = {field: fields[field] / sum(fields.values()) for field in var["take"]}
+        for field in var["take"]:
+            most, least = (choose(shares, key=lambda name: shares[name][field], default=None) for choose in (max, min))
+            if most and shares[most][field] - shares[least][field] > FAR:
+                yield (f"{most}: {var['name']} comes from {field} in {shares[most][field]:.0%} of the records that the job takes, and in "
+                       f"{least} in {shares[least][field]:.0%}: are these the same packets, read to the same depth?")
+                break
+
+
+def again(taken):
+    """Of each record whose key an earlier one of the capture has, the time since the newest of these."""
+    newest, after = {}, []
+    for of in sorted(taken):
+        after += [of.time - newest[of.key]] if of.key in newest else []
+        after += [0] * (of.copies - 1)
+        newest[of.key] = of.time
+    return after
+
+
 def look_at_keys(points, job, taken):
     """Keys that are not those of one packet in all captures."""
     for point in points:
-        newest, again, soonest = {}, sum(of.copies - 1 for of in taken[point.name]), None
-        for of in sorted(taken[point.name]):
-            after = of.time - newest.get(of.key, -HOUR * 10**6)
-            again += after <= job["window"]
-            soonest = after if soonest is None or after < soonest else soonest
-            newest[of.key] = of.time
-        if again:
-            yield (f"{point.name}: {again} records have the key of another one at most the window before: a packet that came "
+        near = sum(after <= job["window"] for after in again(taken[point.name]))
+        if near:
+            yield (f"{point.name}: {near} records have the key of another one at most the window before: a packet that came "
                    "back or is sent again, or a key that does not tell packets apart")
     keys = {point.name: {of.key for of in taken[point.name]} for point in points}
     for name, own in keys.items():
@@ -111,17 +134,19 @@ def look_at_keys(points, job, taken):
         best = max(others, key=lambda other: len(own & keys[other]))
         common = len(own & keys[best])
         if common < FEW * len(own):
-            yield f"{name}: {common} of its {len(own)} keys are also in {best}, and fewer in others" + without(job, own, keys, others)
+            yield f"{name}: {common} of its {len(own)} keys are in {best}, and no more in any other capture" + without(job, own, keys, others)
 
 
 def without(job, own, keys, others):
     """Whether the key would be shared if one of its variables were not in it."""
-    for place, var in enumerate(job["key"]):
+    for place, var in enumerate(job["key"]) if len(job["key"]) > 1 else []:
         def less(all_of):
             return {key[:place] + key[place + 1:] for key in all_of}
+        rest = less(own)
         for other in others:
-            if len(job["key"]) > 1 and len(less(own) & less(keys[other])) >= 0.9 * len(less(own)):
-                return f"; without {var} {len(less(own) & less(keys[other]))} of {len(less(own))} are in {other}: {var} is rewritten on the way"
+            common = len(rest & less(keys[other]))
+            if common >= 0.9 * len(rest):
+                return f"; without {var} {common} of {len(rest)} are in {other}: {var} is rewritten on the way"
     return ""
 
 

@@ -4,12 +4,14 @@ the key of each record that the job takes.
 
 import json
 import os
+import subprocess
+import sys
 import tempfile
 from collections import namedtuple
 
 from captures import format_of, front, packets
 from program import Refused, alone, printed, skew_of
-from reports import Report
+from reports import NoReport, Report
 
 # A record that the job takes: its time by the clock of the capture that is set right, its number, its key, and how many
 # records have that key at that time.
@@ -17,13 +19,20 @@ Taken = namedtuple("Taken", "time record key copies")
 NETWORK = ("ipv4", "ipv6")
 
 
-def report_of(program, job):
-    """The report of a job, with all of its groups."""
-    with tempfile.NamedTemporaryFile("w", suffix=".json") as file:
+def report_of(program, job, keeps=lambda group: True):
+    """The report of a job, with the groups of which `keeps` is true. It is read as it is printed."""
+    with tempfile.NamedTemporaryFile("w", suffix=".json") as file, tempfile.TemporaryFile() as line:
         json.dump(job, file)
         file.flush()
-        lines = printed(program, "central", file.name)
-    return Report(((line + "\n").encode() for line in lines), lambda group: True)
+        with subprocess.Popen([program, "central", file.name], stdout=subprocess.PIPE, stderr=line) as running:
+            try:
+                report, fault = Report(running.stdout, keeps), None
+            except NoReport as wrong:
+                report, fault = None, f"line {wrong.args[0]} of the report: {wrong.args[1]}"
+        line.seek(0)
+        if running.returncode or fault:
+            raise Refused(line.read().decode().strip().removeprefix("dshark: ") or fault)
+        return report
 
 
 class Point:
@@ -57,12 +66,15 @@ class Point:
         self.snaplen = max((lengths[place][1] for place in self.places if lengths[place][1] < lengths[place][2]), default=0)
         parts, self.ending = self.stack()
         self.times = [max(0, int(part[0]) + self.capture.get("offset", 0)) for part in parts]
-        self.kinds = [tuple(header.split("[")[0] for header in part[1].split()) if len(part) > 1 else () for part in parts]
+        self.kinds, known = [], {}  # records with the same kinds share one list of them
+        for part in parts:
+            kinds = tuple(header.split("[")[0] for header in part[1].split()) if len(part) > 1 else ()
+            self.kinds.append(known.setdefault(kinds, kinds))
 
     def field(self, name):
         """The value of a field in each record, as dshark prints it, or None."""
         if name not in self.fields:
-            self.fields[name] = [part[1] if part[1] != "none" else None for part in self.stack("--field", name)[0]]
+            self.fields[name] = [sys.intern(part[1]) if part[1] != "none" else None for part in self.stack("--field", name)[0]]
         return self.fields[name]
 
     def hop(self, record):

@@ -85,16 +85,22 @@ def cases():
     yield "another port", (job(["a", "b"]), {"a": pcap(records(range(20))), "b": pcap([to_port(number, 8472) for number in range(20)])}, 0, look_at(
         "b: 20 records are VXLAN to the UDP port 8472, which is read as payload: the job has vxlan_port 4789",
         "b: 19 records have the key of another one at most the window before: a packet that came back or is sent again, or a key that does not tell packets apart",
-        "a: 1 of its 20 keys are also in b, and fewer in others"))
+        "a: 1 of its 20 keys are in b, and no more in any other capture"))
     yield "times that do not meet", (job(["a", "b"]), {"a": pcap(records(range(9))), "b": pcap(records(range(9), 63, 5 * SECOND))}, 0, look_at(
         "b: it begins 4992 ms after a has ended: they were recorded at different times, or a clock is wrong by that much"))
     yield "no records of an interface", (
         {**job(["a"]), "version": 3, "captures": [{"name": "a", "file": "a.pcap", "interface": 1}]},
         {"a": pcapng([(1, 9, 0), (1, 9, 0)], [(0, *of) for of in records(range(3))])}, 0, look_at("a: it has no records of interface 1", captures=1))
+    of_tcp = [(START + number * MILLISECOND, ethernet(ipv4(*ENDS, 6, number + 1, 64, struct.pack(">HHIIHHHH", 80, 81, 1, 2, 0x5000, 0, 0, 0))))
+              for number in range(20)]
+    yield "another field", (
+        job(["a", "b"], variables={"port": ["tcp[-1].sport", "udp[-1].sport"]}),
+        {"a": pcap(of_tcp), "b": pcap(records(range(20), 63, 1_000))}, 0, look_at(
+            "a: port comes from tcp[-1].sport in 100% of the records that the job takes, and in b in 0%: are these the same packets, read to the same depth?"))
     rewritten = [(time, frame[:26] + bytes((203, 0, 113, 7)) + frame[30:]) for time, frame in records(range(20), 63, 1_000)]
     yield "a NAT", (job(["a", "b"], key=("id", "src")), {"a": pcap(records(range(20))), "b": pcap(rewritten)}, 0, look_at(
-        "a: 0 of its 20 keys are also in b, and fewer in others; without src 20 of 20 are in b: src is rewritten on the way",
-        "b: 0 of its 20 keys are also in a, and fewer in others; without src 20 of 20 are in a: src is rewritten on the way"))
+        "a: 0 of its 20 keys are in b, and no more in any other capture; without src 20 of 20 are in b: src is rewritten on the way",
+        "b: 0 of its 20 keys are in a, and no more in any other capture; without src 20 of 20 are in a: src is rewritten on the way"))
     forth, answers = range(0, 20, 2), range(1, 20, 2)
     ahead = [*records(forth, 63, 5_000 + 70_000), *records(answers, 64, 70_000, False)]
     other = [*records(forth), *records(answers, 63, 5_000, False)]
