@@ -60,7 +60,7 @@ install:
 	install -m 644 docs/job.schema.json '$(ROOT)/$(SHARE)'
 	install -m 644 $(wildcard samples/*.*) '$(ROOT)/$(SHARE)/samples'
 	install -m 644 $(wildcard $(NETWORK)/*.*) '$(ROOT)/$(SHARE)/$(NETWORK)'
-	install -m 644 $(filter-out %.pcap %.pcapng %/planted.json,$(wildcard $(SITE)/*.*)) '$(ROOT)/$(SHARE)/$(SITE)'
+	install -m 644 $(wildcard $(SITE)/*.*) '$(ROOT)/$(SHARE)/$(SITE)'
 	install -m 755 $(TOOLS) '$(ROOT)/$(SHARE)/tools'
 	install -m 644 $(wildcard tools/*.py) '$(ROOT)/$(SHARE)/tools'
 

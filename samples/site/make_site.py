@@ -1,6 +1,6 @@
 #!/usr/bin/env python3
-"""make_site.py [--seed N] [FOLDER]: writes the captures of a site with four capture points beside this script or into
-FOLDER, and planted.json, which says what is wrong there. docs/OPERATING.md goes through them.
+"""make_site.py [--seed N] FOLDER: writes the captures of a site with four capture points into FOLDER, and planted.json,
+which says what is wrong there. docs/OPERATING.md goes through them.
 
     clients -- edge ---- leaf ---- core ---- exit -- servers
                802.1Q    VXLAN     GRE    (NAT) raw IP
@@ -235,7 +235,7 @@ def make(seed):
 def main():
     words = argparse.ArgumentParser(description=__doc__, formatter_class=argparse.RawDescriptionHelpFormatter)
     words.add_argument("--seed", type=int, default=1, help="the number that all is drawn from (default: 1)")
-    words.add_argument("folder", metavar="FOLDER", nargs="?", default=os.path.dirname(os.path.abspath(__file__)))
+    words.add_argument("folder", metavar="FOLDER", help="where the files are written")
     asked = words.parse_args()
     files, planted = make(asked.seed)
     for name, octets in files.items():

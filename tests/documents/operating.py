@@ -60,9 +60,6 @@ class Run:
         os.symlink(os.path.abspath(program), f"{room}/bin/dshark")
         os.symlink(os.path.abspath("tools"), f"{room}/tools")
         shutil.copytree("samples", f"{room}/samples", ignore=shutil.ignore_patterns("__pycache__"))
-        for name in os.listdir(f"{room}/{SITE}"):  # what an earlier run left there is made anew
-            if not os.path.exists(f"{SITE}/{name}") or name.endswith((".pcap", ".pcapng", "planted.json")):
-                os.remove(f"{room}/{SITE}/{name}")
         self.environment = {**os.environ, "PATH": f"{room}/bin:{os.environ['PATH']}"}
         self.environment.pop("DSHARK", None)
 

@@ -38,7 +38,7 @@ expected() {
     echo share/fish/vendor_completions.d/dshark.fish
     echo share/dshark/job.schema.json
     printf 'share/doc/dshark/%s\n' README.md CHANGELOG.md CONTRIBUTING.md SECURITY.md LICENSE docs/*.md
-    find samples -type f ! -path 'samples/site/*.pcap*' ! -name planted.json ! -name '*.pyc' | sed 's|^|share/dshark/|'
+    find samples -type f ! -name '*.pyc' | sed 's|^|share/dshark/|'
     find tools -maxdepth 1 -type f ! -name believed ! -name make-completions ! -name '*.pyc' | sed 's|^|share/dshark/|'
 }
 is 'what is installed' "$(expected | sort)" "$(cd "$room/root/opt/a" && find . -type f | sed 's|^\./||' | sort)"
