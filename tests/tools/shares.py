@@ -21,7 +21,7 @@ from make_network import START, datagram, pcap, question, wrapped
 PARTS = (2, 3, 7)
 SEEDS = range(50)
 WRAPPINGS = ("bare", "vxlan", "gre")
-FILTERS = ("1", "id % 2 == 0 || ttl > 60", "ttl - 55", "not(id == 3) && capture != 1", "7 / (id - 4)", f"time % 3000 > 700 && id >= 1")
+FILTERS = ("1", "id % 2 == 0 || ttl > 60", "ttl - 55", "not(id == 3) && capture != 1", "7 / (id - 4)", "time % 3000 > 700 && id >= 1")
 
 
 def captures_of(draw):
