@@ -1,6 +1,7 @@
 -- A lane's poll: what is ready is offered, the link is pumped, and what became ready is offered.
 use Rattle.std.proofs.Common.{◌≡◌, ◌≢◌, ◌<◌, ◌≤◌, ℕ, zero, suc, ◌-◌, ◌⊎◌, inl, inr, ⊎_elim, Bool, true, false, ◌||◌, if◌then◌else◌, IsTrue, nat_lt, Option, None, Some, ◌+◌, List, [], ◌∷◌, ◌++◌, length, take, drop, replicate, refl, sym, ap, ap₂, ◌∙◌, subst, arith, append_assoc, length-append}
 use Rattle.std.proofs.lemmas.List.{length-take, length-drop, nil_from_length}
+use Rattle.ds_base.specs.Faults.{Rose}
 use Rattle.ds_base.specs.Pipes.{PipeSeen, AnsweredZero}
 use Rattle.node_frames.specs.declared.frame.Frame.{Frame}
 use Rattle.std.proofs.lemmas.Bool.Decides.{nat_tests}
@@ -46,13 +47,14 @@ pub none_or_kept : (fault : Option LinkBad) → (fault ≡ None) ⊎ ((bad : Lin
 none_or_kept None = inl refl
 none_or_kept (Some bad) = inr (bad, refl)
 
-pub fails : (a b d : LaneSeen) (cut : ℕ) (bad : LinkBad) → OffersFront a b → d.queue ≡ b.queue → d.tx.fault ≡ Some bad → TxKeeps b.tx d.tx → ((kept : LinkBad) → b.tx.fault ≡ Some kept → d.tx ≡ b.tx)
+pub fails : (a b d : LaneSeen) (cut : ℕ) (bad : LinkBad) → OffersFront a b → d.queue ≡ b.queue → d.tx.fault ≡ Some bad → TxKeeps b.tx d.tx → TxStands b.tx → ((kept : LinkBad) → b.tx.fault ≡ Some kept → d.tx ≡ b.tx)
     → (b.tx.fault ≡ None → TxFails b.tx d.tx cut bad) → LaneFails a d cut bad
-fails a b d cut bad first queue fault keeps again failed =
+fails a b d cut bad first queue fault keeps stands again failed =
     let same : a.tx.fault ≡ b.tx.fault = sym (ap (λ (t : TxSeen). t.fault) first.same) in
     record {
       fault = fault;
       mid = b;
+      stands = stands;
       offers = first;
       queue = queue;
       kept = keeps;
@@ -147,6 +149,14 @@ none_or_some : (n : ℕ) → (n ≡ 0) ⊎ (0 < n)
 none_or_some zero = inl refl
 none_or_some (suc n) = inr (omega arith)
 
+-- an end that moved nothing was asked, or left alone
+heard_of : (before after : PipeSeen) (cut there n : ℕ) → EndMoves before after ((0 < cut) × (0 < there)) n → n ≡ 0 → (after.silent ≡ before.silent) ⊎ Rose before.silent after.silent
+heard_of before after cut there n moves none =
+    ⊎_elim (λ (e : cut ≡ 0). inl (ap (λ (x : PipeSeen). x.silent) (moves.unasked (λ asked. omega (arith, asked.0, e)))))
+    (λ (some : 0 < cut).
+    ⊎_elim (λ (e : there ≡ 0). inl (ap (λ (x : PipeSeen). x.silent) (moves.unasked (λ asked. omega (arith, asked.1, e)))))
+    (λ (more : 0 < there). inr (moves.zero (some, more) none).1) (none_or_some there)) (none_or_some cut)
+
 nothing_of : (waits lacks : Bool) → (waits ≡ true → ⊥) → need_for waits lacks ≡ Nothing
 nothing_of true lacks h = absurd (h refl)
 nothing_of false lacks h = refl
@@ -197,8 +207,8 @@ polls a b c d cut n waits lacks w lacks_is lacks_not waits_not waits_is =
       most = (omega (arith, long, p.put_within.1), p.paid_within.1);
       sent_bytes = λ told. ap (λ (x : PipeSeen). x.bytes) df ∙ p.put_bytes (subst (λ (x : PipeSeen). IsTrue x.told) (sym bf) told) ∙ ap (λ (x : PipeSeen). x.bytes ++ take p.put b.tx.left) bf;
       paid_bytes = λ told. ap (λ (x : PipeSeen). x.bytes) db ∙ p.paid_bytes (subst (λ (x : PipeSeen). IsTrue x.told) (sym bb) told) ∙ ap (λ (x : PipeSeen). x.bytes ++ replicate p.paid 1) bb;
-      forth = record { told = f.forth.told; faults = f.forth.faults; sure = omega (arith, f.forth.sure, long) };
-      back = record { told = f.back.told; faults = f.back.faults; sure = f.back.sure };
+      forth = record { told = f.forth.told; faults = f.forth.faults; sure = omega (arith, f.forth.sure, long); heard = λ none. heard_of a.tx.forth d.tx.forth cut (length b.tx.left) p.put f.forth (sym long ∙ none) };
+      back = record { told = f.back.told; faults = f.back.faults; sure = f.back.sure; heard = heard_of a.tx.back d.tx.back cut b.tx.held p.paid f.back };
       repaid = f.repaid;
       quiet = f.unfaulted;
       kept = f.kept;

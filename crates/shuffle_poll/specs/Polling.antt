@@ -1,19 +1,22 @@
 -- What one poll does to a lane.
 use Rattle.std.specs.Prelude.{ℕ, ◌≡◌, ◌≢◌, ◌≤◌, ◌<◌, ◌+◌, ◌++◌, ◌⊎◌, IsTrue, Some, None, List, [], length, replicate}
+use Rattle.ds_base.specs.Faults.{Rose}
 use Rattle.ds_base.specs.Pipes.{PipeSeen, AnsweredZero}
 use Rattle.credit_link.specs.declared.link_bad.LinkBad.{LinkBad}
 use Rattle.credit_link.specs.Frames.{capped}
-use Rattle.credit_link.specs.Ends.{IsReady}
+use Rattle.credit_link.specs.Ends.{IsReady, TxStands}
 use Rattle.credit_link.specs.Pumping.{TxFails, TxKeeps}
 use Rattle.shuffle_poll.specs.declared.needs.Passed.{Passed}
 use Rattle.shuffle_poll.specs.declared.needs.Need.TheVariants.{Nothing, Credit, Room}
 use Rattle.shuffle_poll.specs.Lanes.{LaneSeen, put_on, OffersFront}
 
--- a pipe of the link after a poll in which n bytes went through its end
+-- a pipe of the link after a poll in which n bytes went through its end; where none did, the number of its answers of 0
+-- is as before or rose
 pub record EndPolled (before after : PipeSeen) (n : ℕ) : Type 0 where
   pub told : after.told ≡ before.told
   pub faults : after.faults ≡ before.faults
   pub sure : before.sure ≤ after.sure + n
+  pub heard : n ≡ 0 → (after.silent ≡ before.silent) ⊎ Rose before.silent after.silent
 
 -- A poll without a fault: bytes went into the data pipe and credits came back, and frames that waited were
 -- offered. A pipe that had something to move and moved nothing answered 0, and where neither moved, so did each
@@ -50,6 +53,7 @@ pub record LanePolls (before after : LaneSeen) (cut : ℕ) (answer : Passed) : T
 pub record LaneFails (before after : LaneSeen) (cut : ℕ) (bad : LinkBad) : Type 0 where
   pub fault : after.tx.fault ≡ Some bad
   pub mid : LaneSeen
+  pub stands : TxStands mid.tx
   pub offers : OffersFront before mid
   pub queue : after.queue ≡ mid.queue
   pub kept : TxKeeps mid.tx after.tx

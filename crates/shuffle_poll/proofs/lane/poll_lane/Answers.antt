@@ -29,4 +29,4 @@ returns-in-Err-clause-fails g c =
     let b : LaneSeen = record { tx = c.offer_front.new.tx; queue = c.offer_front.new.queue } in
     let d : LaneSeen = record { tx = c.pump.new.self; queue = c.offer_front.new.queue } in
     let e = c.in-Err.ensures in
-    fails a b d c.args.cut c.in-Err.bad c.offer_front.ensures.offers refl e.fault e.kept (λ bad kept. (e.again bad kept).1) (λ none. e.failed none)
+    fails a b d c.args.cut c.in-Err.bad c.offer_front.ensures.offers refl e.fault e.kept c.offer_front.ensures.stands (λ bad kept. (e.again bad kept).1) (λ none. e.failed none)
