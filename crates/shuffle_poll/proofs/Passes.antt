@@ -150,7 +150,7 @@ none_or_some zero = inl refl
 none_or_some (suc n) = inr (omega arith)
 
 -- an end that moved nothing was asked, or left alone
-heard_of : (before after : PipeSeen) (cut there n : ℕ) → EndMoves before after ((0 < cut) × (0 < there)) n → n ≡ 0 → (after.silent ≡ before.silent) ⊎ Rose before.silent after.silent
+pub heard_of : (before after : PipeSeen) (cut there n : ℕ) → EndMoves before after ((0 < cut) × (0 < there)) n → n ≡ 0 → (after.silent ≡ before.silent) ⊎ Rose before.silent after.silent
 heard_of before after cut there n moves none =
     ⊎_elim (λ (e : cut ≡ 0). inl (ap (λ (x : PipeSeen). x.silent) (moves.unasked (λ asked. omega (arith, asked.0, e)))))
     (λ (some : 0 < cut).

@@ -9,5 +9,5 @@ mod shuffle;
 #[cfg(test)]
 mod tests;
 
-pub use needs::{Needs, Polled, ShuffleFault};
+pub use needs::{Need, Needs, Passed, Polled, ShuffleFault};
 pub use shuffle::{NoShuffle, Shuffle};

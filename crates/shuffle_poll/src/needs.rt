@@ -28,7 +28,8 @@ pub struct ShuffleFault {
 
 /// What the frame that waits on a link needs, if one waits.
 #[derive(Clone, Copy, Debug, PartialEq, Eq)]
-pub(crate) enum Need {
+pub enum Need {
+    /// No frame waits.
     Nothing,
     /// A credit: as many frames are held as there are credits, and none came back.
     Credit,
@@ -38,7 +39,7 @@ pub(crate) enum Need {
 
 /// What one poll did to a link: how many bytes moved, and what the frame that waits then needs.
 #[derive(Clone, Copy)]
-pub(crate) struct Passed {
-    pub(crate) moved: u32,
-    pub(crate) need: Need,
+pub struct Passed {
+    pub moved: u32,
+    pub need: Need,
 }
