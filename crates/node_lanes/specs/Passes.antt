@@ -8,6 +8,7 @@ use Rattle.credit_link.specs.declared.link_bad.LinkBad.TheVariants.{Failed}
 use Rattle.credit_link.specs.declared.turn.NodeFault.{NodeFault}
 use Rattle.credit_link.specs.declared.turn.NodeFault.TheVariants.{Link}
 use Rattle.credit_link.specs.Ends.{TxSeen, RxSeen, IsReady}
+use Rattle.credit_link.specs.Pumping.{RxKeeps}
 use Rattle.shuffle_poll.specs.Lanes.{LaneSeen}
 use Rattle.shuffle_poll.specs.Shuffles.{ShuffleSeen, lane_of}
 use Rattle.round_law.specs.Rows.{sent_by, taken_by, SenderStays, ReceiverStays}
@@ -40,6 +41,11 @@ pub record InRests (before after : RxSeen) : Type 0 where
   pub back : EndRests before.back after.back (0 < after.owed)
 
 -- ---- all ends of a node
+
+-- what no pump changes: the frames given, how many were not granted yet, and where the last one stood
+pub record InsKeep (before after : List RxSeen) : Type 0 where
+  pub as_many : length after ≡ length before
+  pub each : (j : ℕ) (d : RxSeen) → j < length before → RxKeeps (slice_index_or before j d) (slice_index_or after j d)
 
 abbrev pub OutsRest : (before after : ShuffleSeen) → Type 0
 OutsRest before after = (k : ℕ) (d : TxSeen) → k < length before.links → OutRests (lane_of before k d) (lane_of after k d)
