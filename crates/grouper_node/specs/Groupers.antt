@@ -12,7 +12,7 @@ use Rattle.round_law.specs.Rows.{OffersFew}
 use Rattle.run_law.specs.Links.{AreLawfulItems, ItemRule, MayFollow}
 use Rattle.run_law.specs.Nodes.{GrouperKeeps, GrouperSendsAll}
 use Rattle.run_law.specs.Shapes.{Shape, IsShape}
-use Rattle.node_lanes.specs.Ends.{given_on, put_on, senders_of, receivers_of, EndsTell, InsStand, InsAreQuiet, InsGo, OutsStand, OutsAreQuiet, OutsGo}
+use Rattle.node_lanes.specs.Ends.{given_on, put_on, senders_of, receivers_of, EndsTell, InsStand, InsAreQuiet, InsGo, OutsStand, OutsAreQuiet, OutsAreBlocked, OutsGo}
 use Rattle.node_lanes.specs.Faults.{TxMeets, RxMeets}
 
 -- A grouper: its job, its number among so many groupers, the credits of its links; its links in, one a parser; its links
@@ -67,7 +67,7 @@ GrouperMeets before after (Link link bad) =
 GrouperMeets before after OutOfMemory = Unit {0}
 GrouperMeets before after _ = ⊥
 
--- where no frame waits, nothing is held back
-abbrev pub GrouperRests : GrouperSeen → Type 0
-GrouperRests s = All (λ (queue : List Frame). queue ≡ []) s.outs.queues
-    → GrouperSendsAll s.job (shape_of s) s.me (given_on s.ins) (put_on s.outs)
+-- after an idle turn: no frame waits on a link that is ready for one, and where none waits nothing is held back
+pub record GrouperRests (s : GrouperSeen) : Type 0 where
+  pub blocked : OutsAreBlocked s.outs
+  pub sends : All (λ (queue : List Frame). queue ≡ []) s.outs.queues → GrouperSendsAll s.job (shape_of s) s.me (given_on s.ins) (put_on s.outs)

@@ -2,7 +2,8 @@
 use Rattle.std.specs.Prelude.{ℕ, ◌≡◌, ◌<◌, List, [], ◌∷◌, ◌++◌, All, Option, None, length, map, slice_index_or}
 use Rattle.node_frames.specs.declared.frame.Frame.{Frame}
 use Rattle.credit_link.specs.Ends.{TxSeen, RxSeen, TxStands, RxStands}
-use Rattle.shuffle_poll.specs.Shuffles.{ShuffleSeen, ShuffleHolds}
+use Rattle.shuffle_poll.specs.Lanes.{IsBlocked}
+use Rattle.shuffle_poll.specs.Shuffles.{ShuffleSeen, ShuffleHolds, lane_of}
 use Rattle.round_law.specs.Links.{Sender, Receiver}
 use Rattle.round_law.specs.Views.{sender_view, receiver_view, TxTells, RxTells}
 use Rattle.run_law.specs.Shapes.{IsFront}
@@ -59,6 +60,10 @@ pub record InsAreQuiet (ins : List RxSeen) : Type 0 where
 
 abbrev pub OutsAreQuiet : ShuffleSeen → Type 0
 OutsAreQuiet outs = All (λ (l : TxSeen). l.fault ≡ None) outs.links
+
+-- after an idle turn: no frame waits on a link that is ready for one
+abbrev pub OutsAreBlocked : ShuffleSeen → Type 0
+OutsAreBlocked outs = (k : ℕ) (d : TxSeen) → k < length outs.links → IsBlocked (lane_of outs k d)
 
 -- ---- how the ends go on
 

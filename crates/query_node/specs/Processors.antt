@@ -12,7 +12,7 @@ use Rattle.round_law.specs.Rows.{OffersFew}
 use Rattle.run_law.specs.Links.{AreLawfulGroups, GroupRule, MayFollow}
 use Rattle.run_law.specs.Nodes.{ProcessorKeeps, ProcessorSendsAll}
 use Rattle.run_law.specs.Shapes.{Shape}
-use Rattle.node_lanes.specs.Ends.{given_on, put_on, senders_of, receivers_of, EndsTell, InsStand, InsAreQuiet, InsGo, OutsStand, OutsAreQuiet, OutsGo}
+use Rattle.node_lanes.specs.Ends.{given_on, put_on, senders_of, receivers_of, EndsTell, InsStand, InsAreQuiet, InsGo, OutsStand, OutsAreQuiet, OutsAreBlocked, OutsGo}
 use Rattle.node_lanes.specs.Faults.{TxMeets, RxMeets}
 
 -- A query processor: its job, the credits of its links; its links in, one a grouper; its one link out, to the merge; and
@@ -63,7 +63,8 @@ ProcessorMeets before after (Link link bad) =
 ProcessorMeets before after OutOfMemory = Unit {0}
 ProcessorMeets before after _ = ⊥
 
--- where no frame waits, nothing is held back
-abbrev pub ProcessorRests : ProcessorSeen → Type 0
-ProcessorRests s = All (λ (queue : List Frame). queue ≡ []) s.outs.queues
-    → (parsers processors : ℕ) → ProcessorSendsAll s.job (shape_with s parsers processors) (given_on s.ins) (put_on s.outs 0)
+-- after an idle turn: no frame waits on a link that is ready for one, and where none waits nothing is held back
+pub record ProcessorRests (s : ProcessorSeen) : Type 0 where
+  pub blocked : OutsAreBlocked s.outs
+  pub sends : All (λ (queue : List Frame). queue ≡ []) s.outs.queues
+      → (parsers processors : ℕ) → ProcessorSendsAll s.job (shape_with s parsers processors) (given_on s.ins) (put_on s.outs 0)
