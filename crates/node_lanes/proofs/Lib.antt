@@ -1,3 +1,5 @@
 pub mod Listed
 pub mod Polled
 pub mod Pumped
+pub mod Resting
+pub mod Going

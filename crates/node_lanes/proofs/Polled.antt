@@ -56,6 +56,7 @@ lane_rests before after cut p some none polls =
     let no_byte : length polls.sent ≡ 0 = omega (arith, polls.total, none) in
     let no_credit : polls.paid ≡ 0 = omega (arith, polls.total, none) in
     record {
+      told = (polls.forth.told, polls.back.told);
       stays = λ tells. record {
         put = polls.sent_bytes tells.forth ∙ ap (λ (l : List ℕ). before.tx.forth.bytes ++ l) (nil_from_length polls.sent no_byte) ∙ append-nil before.tx.forth.bytes;
         back = ap length (polls.paid_bytes tells.back) ∙ length-append before.tx.back.bytes (replicate polls.paid 1) ∙ ap (λ n. length before.tx.back.bytes + n) (length-replicate polls.paid 1 ∙ no_credit) ∙ omega arith;

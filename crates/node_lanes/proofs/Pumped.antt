@@ -99,7 +99,7 @@ begins links cut counts none =
     subst (λ (list : List ℕ). SoFar links links cut 0 list false) (sym none)
     (record { as_many = refl; count = refl; within = omega arith; each = λ j d less. absurd (omega (arith, less)); rest = λ j d _. refl; moved_is = refl })
 
-same_or_not : (k i : ℕ) → (k ≡ i) ⊎ (k ≢ i)
+pub same_or_not : (k i : ℕ) → (k ≡ i) ⊎ (k ≢ i)
 same_or_not k i = grind arith
 
 pub other : (links links' : List RxSeen) (i j : ℕ) (d : RxSeen) → links' ≡ set links i (get_or links' i d) → j ≢ i → get_or links' j d ≡ get_or links j d
@@ -169,12 +169,12 @@ receivers_at [] j r d less = absurd (omega arith)
 receivers_at (x ∷ ins) zero r d less = refl
 receivers_at (x ∷ ins) (suc j) r d less = receivers_at ins j r d (omega arith)
 
-given_at : (ins : List RxSeen) (j : ℕ) (d : RxSeen) → j < length ins → given_on ins j ≡ (get_or ins j d).given
+pub given_at : (ins : List RxSeen) (j : ℕ) (d : RxSeen) → j < length ins → given_on ins j ≡ (get_or ins j d).given
 given_at [] j d less = absurd (omega arith)
 given_at (x ∷ ins) zero d less = refl
 given_at (x ∷ ins) (suc j) d less = given_at ins j d (omega arith)
 
-given_past : (ins : List RxSeen) (j : ℕ) → length ins ≤ j → given_on ins j ≡ []
+pub given_past : (ins : List RxSeen) (j : ℕ) → length ins ≤ j → given_on ins j ≡ []
 given_past [] j past = refl
 given_past (x ∷ ins) zero past = absurd (omega arith)
 given_past (x ∷ ins) (suc j) past = given_past ins j (omega arith)

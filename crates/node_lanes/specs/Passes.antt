@@ -27,6 +27,7 @@ pub record EndRests (before after : PipeSeen) (Waits : Type 0) : Type 0 where
 -- a sending end with the frames that wait for it, on none of whose pipes a byte moved; where a frame waits, the link is
 -- not ready for it
 pub record OutRests (before after : LaneSeen) : Type 0 where
+  pub told : (after.tx.forth.told ≡ before.tx.forth.told) × (after.tx.back.told ≡ before.tx.back.told)
   pub stays : TxTells before.tx → SenderStays (sender_view (length before.queue) before.tx) (sender_view (length after.queue) after.tx)
   pub forth : EndRests before.tx.forth after.tx.forth (0 < length after.tx.left)
   pub back : EndRests before.tx.back after.tx.back (0 < after.tx.held)

@@ -4,5 +4,5 @@
 mod receiving;
 mod sending;
 
-pub use receiving::pump_ins;
+pub use receiving::{pump_ins, taken_all};
 pub use sending::poll_outs;

@@ -1,11 +1,14 @@
 //! The links in of a node.
-ghost use Rattle.std.specs.Prelude.{◌≡◌, ◌<◌, ◌≤◌, ℕ, All, None, Some, IfOk, IfErr, nat_lt, ◌||◌, length, slice_index_or, slice_set};
+ghost use Rattle.std.specs.Prelude.{◌≡◌, ◌<◌, ◌≤◌, ℕ, All, true, false, None, IfOk, IfErr, nat_lt, ◌||◌, length, slice_index_or, slice_set};
 ghost use Rattle.credit_link.specs.Ends.{RxSeen, RxStands};
 ghost use Rattle.credit_link.specs.Pumping.{RxPumps, RxFails, RxKeeps};
+ghost use Rattle.round_law.specs.Links.{HasTakenAll};
+ghost use Rattle.round_law.specs.Views.{receiver_view};
+ghost use Rattle.node_lanes.specs.Resting.{HasTakenEach, SomeToTake};
 ghost use Rattle.node_lanes.specs.Ends.{given_on, InsStand, InsGo};
 ghost use Rattle.node_lanes.specs.Passes.{InsPass, InsNoLess, InsAreCalm, InsKeep, InsMeet};
 
-use credit_link::{LinkBad, LinkRxList, NamedRx, NamedTx, NodeFault};
+use credit_link::{LinkBad, LinkRx, LinkRxList, NamedRx, NamedTx, NodeFault};
 use ghost_list::GhostList;
 
 /// Pumps each link in once. True exactly where a byte moved. A fault names the lowest link of which a pipe
@@ -69,4 +72,25 @@ fn pump_at<R: NamedRx, T: NamedTx>(
         Ok(moved) => Ok(moved),
         Err(bad) => Err(bad),
     }
+}
+
+/// Whether on each link in Finish was taken and no credit is owed.
+pub fn taken_all<R: NamedRx, T: NamedTx>(ins: &LinkRxList<R, T>) -> bool
+    ensures all { result ≡ true → HasTakenEach ins.now.items }
+    ensures not { result ≡ false → SomeToTake ins.now.items }
+{
+    'links: for j in 0..ins.len() {
+        if !has_taken_all(ins.get(j)) {
+            return false;
+        }
+    }
+    true
+}
+
+// Whether Finish was taken and no credit is owed.
+fn has_taken_all<R: NamedRx, T: NamedTx>(rx: &LinkRx<R, T>) -> bool
+    ensures all { result ≡ true → HasTakenAll (receiver_view rx.now) }
+    ensures not { result ≡ false → ¬ HasTakenAll (receiver_view rx.now) }
+{
+    rx.finished() && rx.owed() == 0
 }
