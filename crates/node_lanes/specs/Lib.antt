@@ -2,3 +2,4 @@ pub mod Ends
 pub mod Faults
 pub mod Passes
 pub mod Resting
+pub mod Pulling
