@@ -3,3 +3,4 @@ pub mod Faults
 pub mod Passes
 pub mod Resting
 pub mod Pulling
+pub mod Lending
