@@ -4,3 +4,4 @@ pub mod Pumped
 pub mod Pulled
 pub mod Resting
 pub mod Going
+pub mod Taken
