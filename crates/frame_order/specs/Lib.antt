@@ -1,0 +1,4 @@
+pub mod Agreeing
+pub mod Groups
+pub mod Items
+pub mod Said
