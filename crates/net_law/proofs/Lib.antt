@@ -1,0 +1,16 @@
+pub mod Ends
+pub mod Parsed
+pub mod Moments
+pub mod Going
+pub mod Counting
+pub mod Steps
+pub mod Meeting
+pub mod Pairs
+pub mod Faults
+pub mod Turned
+pub mod Views
+pub mod Sound
+pub mod Rounds
+pub mod Done
+pub mod Starts
+pub mod Rests

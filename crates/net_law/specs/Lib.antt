@@ -1,0 +1,14 @@
+pub mod Parsers
+pub mod Groupers
+pub mod Processors
+pub mod Merges
+pub mod Ends
+pub mod Nets
+pub mod Laws
+pub mod Steps
+pub mod Turned
+pub mod Pairs
+pub mod Faults
+pub mod Rounds
+pub mod Rests
+pub mod Starts

@@ -1,2 +1,0 @@
-//! The query processor of a pipeline: it answers each group that it takes.
-#![tactic(auto)]

@@ -1,2 +1,0 @@
-//! The merge of a pipeline: it writes the report in the order of stamps.
-#![tactic(auto)]
