@@ -1,3 +1,5 @@
+pub mod Following
 mod Groups
 mod Items
 mod Lists
+mod Rows

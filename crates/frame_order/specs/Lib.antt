@@ -1,4 +1,5 @@
 pub mod Agreeing
 pub mod Groups
 pub mod Items
+pub mod Rows
 pub mod Said

@@ -4,7 +4,7 @@ ghost use Rattle.std.specs.List.{AllByRecursion, list_any};
 ghost use Rattle.node_frames.specs.declared.frame.Frame.TheVariants.{GroupHead, Member, GroupMark, Finish};
 ghost use Rattle.summary_spec.specs.Job.{declared_of};
 ghost use Rattle.run_law.specs.Sent.{begun_in};
-ghost use Rattle.run_law.specs.Links.{MayFollow, GroupRule, NoneBegun, IsNextMember, IsHead, members_announced};
+ghost use Rattle.run_law.specs.Links.{MayFollow, AreLawful, GroupRule, NoneBegun, IsNextMember, IsHead, members_announced};
 ghost use Rattle.frame_order.specs.Groups.{HeadFits, GroupMarkFits, IsAfterHead, IsNextIn};
 ghost use Rattle.frame_order.specs.Said.{greatest, group_mark_of, is_profile, is_finish};
 
@@ -74,6 +74,16 @@ impl GroupOrder {
 
     /// Takes the frame up if it may stand behind those before it, and answers whether it may.
     pub fn admit(&mut self, job: &Job, frame: &Frame) -> bool
+        ensures exact { IsTrue result ↔ MayFollow (GroupRule (declared_of job.now)) self.old frame.now }
+        ensures lawful { IsTrue result → AreLawful (GroupRule (declared_of job.now)) self.old → AreLawful (GroupRule (declared_of job.now)) self.new }
+        ensures takes { IsTrue result → self.new ≡ self.old ++ frame.now ∷ [] }
+        ensures refuses { IsFalse result → self.new ≡ self.old }
+    {
+        self.decide(job, frame)
+    }
+
+    /// The same, kind by kind.
+    fn decide(&mut self, job: &Job, frame: &Frame) -> bool
         ensures exact { IsTrue result ↔ MayFollow (GroupRule (declared_of job.now)) self.old frame.now }
         ensures takes { IsTrue result → self.new ≡ self.old ++ frame.now ∷ [] }
         ensures refuses { IsFalse result → self.new ≡ self.old }

@@ -4,7 +4,7 @@ ghost use Rattle.std.specs.List.{list_any};
 ghost use Rattle.node_frames.specs.declared.frame.Frame.TheVariants.{Item, Mark, CaptureEnd, Finish};
 ghost use Rattle.summary_spec.specs.Job.{declared_of};
 ghost use Rattle.run_law.specs.Shapes.{Shape};
-ghost use Rattle.run_law.specs.Links.{MayFollow, HasEnded, ItemRule, IsItemOf};
+ghost use Rattle.run_law.specs.Links.{MayFollow, AreLawful, HasEnded, ItemRule, IsItemOf};
 ghost use Rattle.frame_order.specs.Items.{IsOf, shape_with, HaveAllEnded, ItemFits, MarkFits, EndFits};
 ghost use Rattle.frame_order.specs.Said.{greatest, next_of, mark_of, is_end_of, is_finish};
 
@@ -65,6 +65,7 @@ impl ItemOrder {
         requires parsers { 0 < link.parsers }
         requires groupers { 0 < link.groupers }
         ensures exact { (shape : Shape) → IsOf shape link → IsTrue result ↔ MayFollow (ItemRule (declared_of job.now) shape link.parser link.grouper) self.old frame.now }
+        ensures lawful { (shape : Shape) → IsOf shape link → IsTrue result → AreLawful (ItemRule (declared_of job.now) shape link.parser link.grouper) self.old → AreLawful (ItemRule (declared_of job.now) shape link.parser link.grouper) self.new }
         ensures takes { IsTrue result → self.new ≡ self.old ++ frame.now ∷ [] }
         ensures refuses { IsFalse result → self.new ≡ self.old }
     {
