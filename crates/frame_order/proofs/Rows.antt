@@ -1,5 +1,5 @@
 -- What the frames from a parser to the merge permit, and what is kept of them.
-use Rattle.std.proofs.Common.{ℕ, Bool, true, false, List, [], ◌∷◌, ◌++◌, ◌≡◌, ◌≢◌, ◌⊎◌, ◌<◌, ◌%◌, inl, inr, refl, sym, ap, subst, ◌∙◌, ⊎_elim, get_or, replicate}
+use Rattle.std.proofs.Common.{ℕ, Bool, true, false, List, [], ◌∷◌, ◌++◌, ◌≡◌, ◌≢◌, ◌⊎◌, ◌%◌, inl, inr, refl, sym, ap, subst, ◌∙◌, ⊎_elim, get_or, replicate}
 use Rattle.std.specs.Prelude.{◌==◌, ◌||◌}
 use Rattle.std.specs.List.{AllByRecursion, list_any}
 use Rattle.std.proofs.lemmas.Bool.{cases_Bool, eq-eqb, eqb-true}
