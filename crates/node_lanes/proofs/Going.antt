@@ -3,17 +3,15 @@ use Rattle.std.proofs.Common.{ℕ, ◌+◌, ◌*◌, ◌<◌, ◌≤◌, ◌≡�
 use Rattle.std.specs.List.{All}
 use Rattle.ds_base.specs.Faults.{Rose}
 use Rattle.node_frames.specs.declared.frame.Frame.{Frame}
-use Rattle.credit_link.specs.declared.link_bad.LinkBad.{LinkBad}
 use Rattle.credit_link.specs.declared.turn.NodeFault.{NodeFault}
 use Rattle.credit_link.specs.Ends.{TxSeen, RxSeen}
-use Rattle.shuffle_poll.specs.Lanes.{put_on as all_put}
-use Rattle.shuffle_poll.specs.Shuffles.{ShuffleSeen, lane_of}
-use Rattle.round_law.specs.Links.{Sender, new_sender}
+use Rattle.shuffle_poll.specs.Shuffles.{ShuffleSeen}
+use Rattle.round_law.specs.Links.{Sender}
 use Rattle.round_law.specs.Rows.{OffersFew, taken_up, frames_beside}
 use Rattle.round_law.specs.Views.{TxTells, RxTells}
 use Rattle.run_law.specs.Shapes.{IsFront}
 use Rattle.node_lanes.specs.Ends.{put_on, senders_of, RxGoes, TxGoes, InsGo, OutsGo}
-use Rattle.node_lanes.specs.Faults.{TxMeets, RxFailed}
+use Rattle.node_lanes.specs.Faults.{RxFailed}
 use Rattle.node_lanes.specs.Passes.{OutsAreCalm, InsAreCalm, OutsMeet, InsMeet}
 use Rattle.node_lanes.specs.Resting.{node_with}
 use Rattle.node_lanes.proofs.Listed.{before_or_not, front_same, front_trans, puts_at, puts_past, senders_long, senders_at}

@@ -1,5 +1,5 @@
 -- What one poll of all links out is to a node.
-use Rattle.std.proofs.Common.{ℕ, suc, ◌+◌, ◌*◌, ◌<◌, ◌≤◌, ◌≡◌, nat_lt, IsTrue, Bool, true, false, None, Some, List, [], ◌∷◌, ◌++◌, length, replicate, get_or, refl, sym, ap, ap₂, ◌∙◌, subst, arith, append-nil, length-append, ⊎_elim, ◌⊎◌, inl, inr}
+use Rattle.std.proofs.Common.{ℕ, ◌+◌, ◌<◌, ◌≤◌, ◌≡◌, nat_lt, Bool, true, false, None, Some, List, [], ◌∷◌, ◌++◌, length, replicate, get_or, refl, sym, ap, ◌∙◌, subst, arith, append-nil, length-append, ⊎_elim, ◌⊎◌}
 use Rattle.std.specs.List.{sum_by, All}
 use Rattle.std.proofs.lemmas.Bool.Decides.{nat_tests}
 use Rattle.std.proofs.lemmas.List.{nil_from_length, length-replicate}
@@ -7,22 +7,22 @@ use Rattle.std.proofs.lemmas.List.Sums.{get_or-le-sum_by}
 use Rattle.node_frames.specs.declared.frame.Frame.{Frame}
 use Rattle.credit_link.specs.declared.link_bad.LinkBad.{LinkBad}
 use Rattle.credit_link.specs.declared.turn.NodeFault.TheVariants.{Link}
-use Rattle.credit_link.specs.Ends.{TxSeen, TxStands}
-use Rattle.credit_link.specs.Pumping.{TxKeeps, TxFails}
+use Rattle.credit_link.specs.Ends.{TxSeen}
+use Rattle.credit_link.specs.Pumping.{TxFails}
 use Rattle.shuffle_poll.specs.declared.needs.Passed.{Passed}
 use Rattle.shuffle_poll.specs.declared.needs.Need.TheVariants.{Nothing}
 use Rattle.shuffle_poll.specs.declared.needs.Needs.{Needs}
 use Rattle.shuffle_poll.specs.declared.needs.ShuffleFault.{ShuffleFault}
 use Rattle.shuffle_poll.specs.Lanes.{LaneSeen, put_on as all_put}
 use Rattle.shuffle_poll.specs.Polling.{LanePolls, LaneFails}
-use Rattle.shuffle_poll.specs.Shuffles.{ShuffleSeen, lane_at, lane_of, ShuffleHolds, PollsLanes, FailsAt}
-use Rattle.round_law.specs.Links.{Sender, new_sender}
+use Rattle.shuffle_poll.specs.Shuffles.{ShuffleSeen, lane_of, ShuffleHolds, PollsLanes, FailsAt}
+use Rattle.round_law.specs.Links.{new_sender}
 use Rattle.round_law.specs.Rows.{sent_by}
 use Rattle.round_law.specs.Views.{sender_view, TxTells}
 use Rattle.run_law.specs.Shapes.{IsFront}
 use Rattle.node_lanes.specs.Ends.{put_on, senders_of, TxGoes, OutsGo, OutsStand, OutsAreQuiet}
 use Rattle.node_lanes.specs.Faults.{TxMeets}
-use Rattle.node_lanes.specs.Passes.{OutRests, EndRests, OutsPass, OutsNoLess, OutsAreCalm, OutsMeet}
+use Rattle.node_lanes.specs.Passes.{OutRests, OutsPass, OutsNoLess, OutsAreCalm, OutsMeet}
 use Rattle.node_lanes.proofs.Listed.{front_same, front_of, puts_same, senders_long, senders_at, sum_adds}
 
 -- ---- one link

@@ -1,5 +1,5 @@
 -- One link in was pulled or granted.
-use Rattle.std.proofs.Common.{ℕ, ◌+◌, ◌-◌, ◌<◌, ◌≤◌, ◌≡◌, ◌≢◌, ◌^◌, Bool, Option, Some, None, Ok, Err, Result, List, [], ◌∷◌, ◌++◌, length, get_or, set, refl, sym, ap, ◌∙◌, subst, arith, append_assoc, length-append, ⊎_elim, ◌⊎◌}
+use Rattle.std.proofs.Common.{ℕ, ◌+◌, ◌<◌, ◌≡◌, ◌≢◌, Option, Some, None, Ok, Err, Result, List, [], ◌∷◌, ◌++◌, length, get_or, refl, sym, ap, ◌∙◌, subst, arith, length-append, ⊎_elim}
 use Rattle.node_frames.specs.declared.frame.Frame.{Frame}
 use Rattle.node_frames.specs.Fields.{bytes_of}
 use Rattle.node_frames.specs.Table.{payload_of}

@@ -1,12 +1,11 @@
 -- One pump of each link in, as far as it has come.
-use Rattle.std.proofs.Common.{ℕ, zero, suc, ◌+◌, ◌<◌, ◌≤◌, ◌≡◌, ◌≢◌, ◌||◌, nat_lt, Bool, true, false, None, Some, List, [], ◌∷◌, ◌++◌, length, map, replicate, get_or, set, refl, sym, ap, ◌∙◌, subst, arith, append-nil, length-append, ⊎_elim, ◌⊎◌, inl, inr}
+use Rattle.std.proofs.Common.{ℕ, zero, suc, ◌+◌, ◌<◌, ◌≤◌, ◌≡◌, ◌≢◌, ◌||◌, nat_lt, Bool, true, false, None, Some, List, [], ◌∷◌, ◌++◌, length, replicate, get_or, set, refl, sym, ap, ◌∙◌, subst, arith, append-nil, length-append, ⊎_elim, ◌⊎◌, inl, inr}
 use Rattle.std.specs.List.{sum_by, All}
 use Rattle.std.proofs.Math.ListN.{get_or-append}
 use Rattle.std.proofs.Math.Seq.{get_or-append_seam}
 use Rattle.std.proofs.lemmas.Bool.Decides.{nat_tests}
 use Rattle.std.proofs.lemmas.List.{nil_from_length, length-replicate, length-map, get_or-set_other}
 use Rattle.std.proofs.lemmas.List.Sums.{get_or-le-sum_by, sum_by-append}
-use Rattle.node_frames.specs.declared.frame.Frame.{Frame}
 use Rattle.credit_link.specs.declared.link_bad.LinkBad.{LinkBad}
 use Rattle.credit_link.specs.declared.turn.NodeFault.TheVariants.{Link}
 use Rattle.credit_link.specs.Ends.{RxSeen, RxStands}
@@ -18,9 +17,9 @@ use Rattle.shuffle_poll.proofs.Passes.{heard_of}
 use Rattle.round_law.specs.Links.{Receiver, new_receiver}
 use Rattle.round_law.specs.Rows.{taken_by}
 use Rattle.round_law.specs.Views.{receiver_view, RxTells}
-use Rattle.node_lanes.specs.Ends.{given_on, receivers_of, RxGoes, InsGo, InsStand}
+use Rattle.node_lanes.specs.Ends.{given_on, receivers_of, InsGo, InsStand}
 use Rattle.node_lanes.specs.Faults.{RxFailed}
-use Rattle.node_lanes.specs.Passes.{EndRests, InRests, InsPass, InsNoLess, InsAreCalm, InsKeep, InsMeet}
+use Rattle.node_lanes.specs.Passes.{InRests, InsPass, InsNoLess, InsAreCalm, InsKeep, InsMeet}
 use Rattle.node_lanes.proofs.Listed.{before_or_not, front_same, sum_adds}
 
 -- ---- one link

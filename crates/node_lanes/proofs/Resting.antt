@@ -1,19 +1,19 @@
 -- A node in which nothing moved is idle or done.
-use Rattle.std.proofs.Common.{ℕ, zero, suc, ◌^◌, ◌-◌, ◌+◌, ◌<◌, ◌≤◌, ◌≡◌, ◌≢◌, IsTrue, Bool, true, false, List, [], ◌∷◌, ◌++◌, length, get_or, refl, sym, ap, ◌∙◌, subst, arith, append-nil, ⊎_elim, ◌⊎◌, inl, inr}
+use Rattle.std.proofs.Common.{ℕ, zero, suc, ◌^◌, ◌-◌, ◌<◌, ◌≤◌, ◌≡◌, IsTrue, Bool, true, false, List, [], ◌∷◌, ◌++◌, length, get_or, refl, sym, ap, ◌∙◌, subst, arith, append-nil, ⊎_elim, ◌⊎◌, inl, inr}
 use Rattle.std.specs.List.{All}
 use Rattle.std.proofs.lemmas.List.{nil_from_length, length-map}
 use Rattle.std.proofs.lemmas.Bool.{cases_Bool}
 use Rattle.ds_base.specs.Faults.{Rose}
-use Rattle.ds_base.specs.Pipes.{PipeSeen, AnsweredZero}
+use Rattle.ds_base.specs.Pipes.{PipeSeen}
 use Rattle.node_frames.specs.declared.frame.Frame.{Frame}
 use Rattle.credit_link.specs.Frames.{has_finish, FinishIsLast, IsCounted}
 use Rattle.credit_link.specs.Moves.{IsHeard}
 use Rattle.credit_link.specs.Ends.{TxSeen, RxSeen}
-use Rattle.shuffle_poll.specs.Lanes.{LaneSeen, put_on as all_put}
+use Rattle.shuffle_poll.specs.Lanes.{LaneSeen}
 use Rattle.shuffle_poll.specs.Shuffles.{ShuffleSeen, lane_of, IsSettled}
 use Rattle.round_law.specs.Links.{Sender, Receiver, new_sender, new_receiver, HasTakenAll, HasSentAll, IsGranted, OpensNoFrame}
 use Rattle.round_law.specs.Rows.{StandsStill, PipesStay, IsOrderly, OffersFew, IdleRow, DoneRow}
-use Rattle.round_law.specs.Views.{sender_view, receiver_view, TxTells, RxTells, PartOpensNone, PartIsShort, AnsweredAgain}
+use Rattle.round_law.specs.Views.{sender_view, receiver_view, TxTells, RxTells}
 use Rattle.round_law.specs.Waits.{Node, PipeEnd, NoneWaits, WantsCredit, Waits, AnsweredIn, IsIdle, IsDone}
 use Rattle.round_law.specs.Waits.PipeEnd.{DataOut, CreditOut, DataIn, CreditIn}
 use Rattle.round_law.proofs.Views.{part_opens_none, part_is_short, answered_again, rx_is_granted}

@@ -1,14 +1,14 @@
 -- A frame was taken off one link in, and granted.
-use Rattle.std.proofs.Common.{ℕ, ◌+◌, ◌-◌, ◌<◌, ◌≤◌, ◌≡◌, ◌≢◌, None, List, [], ◌∷◌, ◌++◌, length, map, get_or, set, refl, sym, ap, ◌∙◌, subst, arith, length-append, ⊎_elim, ◌⊎◌}
+use Rattle.std.proofs.Common.{ℕ, ◌+◌, ◌-◌, ◌<◌, ◌≤◌, ◌≡◌, ◌≢◌, None, List, [], ◌∷◌, length, get_or, sym, ap, ◌∙◌, subst, arith, length-append, ⊎_elim}
 use Rattle.std.specs.List.{sum_by}
 use Rattle.std.proofs.lemmas.List.{length-map}
 use Rattle.node_frames.specs.declared.frame.Frame.{Frame}
 use Rattle.credit_link.specs.Frames.{capped}
 use Rattle.credit_link.specs.Ends.{RxSeen}
-use Rattle.round_law.specs.Links.{Receiver, new_receiver}
+use Rattle.round_law.specs.Links.{new_receiver}
 use Rattle.round_law.specs.Rows.{taken_by}
 use Rattle.round_law.specs.Views.{receiver_view}
-use Rattle.round_law.proofs.Sums.{sum_no_less, sum_rises}
+use Rattle.round_law.proofs.Sums.{sum_rises}
 use Rattle.node_lanes.specs.Ends.{receivers_of, InsAreQuiet}
 use Rattle.node_lanes.specs.Passes.{InsAreCalm}
 use Rattle.node_lanes.specs.Pulling.{ChangesLink, TakesFrame}

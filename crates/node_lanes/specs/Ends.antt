@@ -1,7 +1,7 @@
 -- A node's ends of links as plain lists: what came and went on each, and how the laws of a run see them.
-use Rattle.std.specs.Prelude.{ℕ, ◌≡◌, ◌<◌, List, [], ◌∷◌, ◌++◌, All, Option, None, length, map, slice_index_or}
+use Rattle.std.specs.Prelude.{ℕ, ◌≡◌, ◌<◌, List, [], ◌∷◌, ◌++◌, All, None, length, map, slice_index_or}
 use Rattle.node_frames.specs.declared.frame.Frame.{Frame}
-use Rattle.credit_link.specs.Ends.{TxSeen, RxSeen, TxStands, RxStands}
+use Rattle.credit_link.specs.Ends.{TxSeen, RxSeen, RxStands}
 use Rattle.shuffle_poll.specs.Lanes.{IsBlocked}
 use Rattle.shuffle_poll.specs.Shuffles.{ShuffleSeen, ShuffleHolds, lane_of}
 use Rattle.round_law.specs.Links.{Sender, Receiver}

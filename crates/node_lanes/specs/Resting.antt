@@ -1,14 +1,13 @@
 -- A node after a pass in which nothing moved.
-use Rattle.std.specs.Prelude.{ℕ, ◌≡◌, ◌<◌, ◌⊎◌, Bool, true, false, ◌&&◌, IsTrue, List, [], All, length, slice_index_or}
-use Rattle.node_frames.specs.declared.frame.Frame.{Frame}
-use Rattle.credit_link.specs.Frames.{has_finish, FinishIsLast}
+use Rattle.std.specs.Prelude.{ℕ, ◌≡◌, ◌<◌, Bool, false, IsTrue, List, [], All, length, slice_index_or}
+use Rattle.credit_link.specs.Frames.{has_finish}
 use Rattle.credit_link.specs.Ends.{TxSeen, RxSeen}
 use Rattle.credit_link.specs.Ahead.{IsPart}
 use Rattle.shuffle_poll.specs.Shuffles.{ShuffleSeen, lane_of, IsSettled}
 use Rattle.round_law.specs.Links.{HasTakenAll}
 use Rattle.round_law.specs.Views.{receiver_view}
 use Rattle.round_law.specs.Waits.{Node}
-use Rattle.node_lanes.specs.Ends.{put_on, senders_of, receivers_of, InsStand, OutsStand, InsAreQuiet}
+use Rattle.node_lanes.specs.Ends.{put_on, senders_of, receivers_of, InsStand, OutsStand}
 use Rattle.node_lanes.specs.Passes.{InsRest, OutsRest}
 
 -- the node by its ends, what it has read and written, and whether it has written all

@@ -1,5 +1,4 @@
 -- The pull of one link, seen over all.
-use Rattle.node_lanes.specs.Pulling.{ChangesLink}
 use Rattle.node_lanes.proofs.Pulled.{pulls_ok, pulls_err, pull_goes, changed_goes, changed_stand}
 use Rattle.std.proofs.Common.{get_or, Ok, Err}
 use Rattle.node_lanes.proofs.pulling.pull_at.Goals as goal

@@ -1,5 +1,5 @@
 -- The place of the frame that was pulled last.
-use Rattle.std.proofs.Common.{◌≡◌, ℕ, get_or, sym, ap, ◌∙◌, subst, length, ◌<◌}
+use Rattle.std.proofs.Common.{◌≡◌, ℕ, sym, ap, ◌∙◌, subst, length, ◌<◌}
 use Rattle.std.proofs.lemmas.Option.{get_or_from_slice_get}
 use Rattle.credit_link.specs.declared.link_bad.LinkBad.TheVariants.{Order}
 use Rattle.credit_link.specs.declared.turn.NodeFault.TheVariants.{Link}

@@ -1,6 +1,6 @@
 -- One link more is pumped, or fails.
-use Rattle.std.proofs.Common.{◌∙◌, ◌<◌, ◌≤◌, ◌≡◌, length, refl, arith}
-use Rattle.node_lanes.proofs.Pumped.{Keeps, Pumps, begins, goes_on, keeps_far, keeps_on, kept, kept_goes, kept_stand, kept_given, all_quiet, all_calm, all_no_less, all_passes, failed}
+use Rattle.std.proofs.Common.{arith}
+use Rattle.node_lanes.proofs.Pumped.{begins, goes_on, keeps_far, keeps_on, kept, kept_goes, kept_stand, kept_given, all_quiet, all_calm, all_no_less, all_passes, failed}
 use Rattle.node_lanes.proofs.receiving.pump_ins.Goals as goal
 
 pub links-init : goal.links-init

@@ -1,7 +1,6 @@
 -- The poll of the shuffle, seen as a node sees it.
 use Rattle.node_lanes.proofs.Listed.{puts_same}
 use Rattle.node_lanes.proofs.Polled.{goes_by, stand_by, polled_goes, polled_quiet, polled_calm, polled_no_less, polled_passes, failed_goes, failed_meets}
-use Rattle.node_lanes.specs.Ends.{OutsGo}
 use Rattle.node_lanes.proofs.sending.poll_outs.Goals as goal
 
 pub returns-in-Ok-clause-goes : goal.returns-in-Ok-clause-goes
