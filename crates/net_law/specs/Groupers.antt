@@ -61,9 +61,9 @@ pub record GrouperGoes (before after : GrouperSeen) : Type 0 where
 abbrev pub GrouperMeets : (before after : GrouperSeen) → NodeFault → Type 0
 GrouperMeets before after (Link link bad) =
     ((link < length before.ins) × ((d : RxSeen) → RxMeets (MayFollow (ItemRule before.job (shape_of before) link before.me))
-        (slice_index_or before.ins link d) (slice_index_or after.ins link d) bad))
+    (slice_index_or before.ins link d) (slice_index_or after.ins link d) bad))
     ⊎ ((k : ℕ) × (link ≡ length before.ins + k) × (k < length before.outs.links)
-        × ((d : TxSeen) → TxMeets (slice_index_or before.outs.links k d) (slice_index_or after.outs.links k d) bad))
+    × ((d : TxSeen) → TxMeets (slice_index_or before.outs.links k d) (slice_index_or after.outs.links k d) bad))
 GrouperMeets before after OutOfMemory = Unit {0}
 GrouperMeets before after _ = ⊥
 

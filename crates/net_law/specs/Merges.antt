@@ -81,9 +81,9 @@ abbrev pub MergeMeets : (before after : MergeSeen) → NodeFault → Type 0
 MergeMeets before after Write = Rose before.sink.faults after.sink.faults
 MergeMeets before after (Link link bad) =
     ((link < before.parsers) × ((groupers : ℕ) (d : RxSeen) → RxMeets (MayFollow (CountsRule before.job (shape_with before groupers) link))
-        (slice_index_or before.ins link d) (slice_index_or after.ins link d) bad))
+    (slice_index_or before.ins link d) (slice_index_or after.ins link d) bad))
     ⊎ ((before.parsers ≤ link) × (link < length before.ins) × ((d : RxSeen) → RxMeets (MayFollow (AnswerRule before.job))
-        (slice_index_or before.ins link d) (slice_index_or after.ins link d) bad))
+    (slice_index_or before.ins link d) (slice_index_or after.ins link d) bad))
 MergeMeets before after OutOfMemory = Unit {0}
 MergeMeets before after _ = ⊥
 

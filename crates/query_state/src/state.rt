@@ -85,7 +85,13 @@ impl QueryState {
     }
 
     /// A member was taken: the answer, where a group is whole with it.
-    fn take_member(&mut self, job: &Job, link: u32, at: Stamp, vals: Nums) -> Result<Option<Answer>, OutOfMemory>
+    fn take_member(
+        &mut self,
+        job: &Job,
+        link: u32,
+        at: Stamp,
+        vals: Nums,
+    ) -> Result<Option<Answer>, OutOfMemory>
         requires { CanTake (declared_of job.now) self.old link (Member at vals) }
         ensures takes { IfOk result (λ answer. (taken : List (List FrameSeen)) (put : List FrameSeen) → state_is (declared_of job.now) taken put self.old
             → MayTake (declared_of job.now) taken link (Member at vals)
@@ -100,7 +106,12 @@ impl QueryState {
 
     /// A frame was taken that may stand where it stands: the answer, where a group is whole with it. It is
     /// refused for want of memory alone, and the state is of no use then.
-    pub fn take(&mut self, job: &Job, link: u32, frame: &Frame) -> Result<Option<Answer>, OutOfMemory>
+    pub fn take(
+        &mut self,
+        job: &Job,
+        link: u32,
+        frame: &Frame,
+    ) -> Result<Option<Answer>, OutOfMemory>
         requires { CanTake (declared_of job.now) self.old link frame.now }
         ensures takes { IfOk result (λ answer. (taken : List (List FrameSeen)) (put : List FrameSeen) → state_is (declared_of job.now) taken put self.old
             → MayTake (declared_of job.now) taken link frame.now
@@ -236,7 +247,12 @@ fn answer_to(job: &Job, group: &Group) -> Answer
 }
 
 // The answer to the group that became whole on a link, which is counted too.
-fn answer_at(lanes: &Vec<Taking>, profile: &mut Profile, job: &Job, link: u32) -> Result<Answer, OutOfMemory>
+fn answer_at(
+    lanes: &Vec<Taking>,
+    profile: &mut Profile,
+    job: &Job,
+    link: u32,
+) -> Result<Answer, OutOfMemory>
     requires there { link < length lanes.now.items }
     requires answerable { IsAnswerable (declared_of job.now) (copies_taken (slice_index_or lanes.now.items link new_taking)) }
     requires captures { length (declared_of job.now).captures ≤ 64 }

@@ -1,0 +1,9 @@
+pub mod Taking
+pub mod Framing
+pub mod Keeping
+pub mod Going
+pub mod Ending
+pub mod Marking
+pub mod Choosing
+pub mod Puts
+pub mod Starting

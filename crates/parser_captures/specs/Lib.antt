@@ -1,0 +1,4 @@
+pub mod Captures
+pub mod Choice
+pub mod Puts
+pub mod Steps
