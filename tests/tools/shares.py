@@ -2,7 +2,7 @@
 
 The jobs are those of the sample network, and 50 that are drawn from a seed: random traffic in one to five captures, in
 files of both orders and units, with every kind of query, of every version, with and without a profile, a filter, and
-clocks and skews of captures. Each is run in 2, 3 and 7 shares.
+clocks and skews of captures. Each is run in 2, 3 and 7 shares, some jobs side by side.
 """
 
 import json
@@ -10,6 +10,7 @@ import os
 import random
 import subprocess
 import sys
+from concurrent.futures import ThreadPoolExecutor
 
 HERE = os.path.dirname(os.path.abspath(__file__))
 TOP = os.path.join(HERE, "..", "..")
@@ -94,10 +95,7 @@ def wrong_parts(program, folder, job, room):
 def main():
     program, folder = os.path.abspath(sys.argv[1]), os.path.abspath(sys.argv[2])
     os.environ["DSHARK"] = program
-    wrong = tried = 0
-    for job in ("job.json", "drop.json", "clock.json", "interfaces.json"):
-        wrong += wrong_parts(program, NETWORK, job, folder)
-        tried += len(PARTS)
+    runs = [(NETWORK, job, folder) for job in ("job.json", "drop.json", "clock.json", "interfaces.json")]
     kinds = set()
     for seed in SEEDS:
         draw = random.Random(seed)
@@ -111,8 +109,10 @@ def main():
                 file.write(octets)
         with open(os.path.join(place, "job.json"), "w", encoding="utf-8") as file:
             json.dump(job, file)
-        wrong += wrong_parts(program, place, "job.json", place)
-        tried += len(PARTS)
+        runs.append((place, "job.json", place))
+    with ThreadPoolExecutor(os.cpu_count()) as pool:
+        wrong = sum(pool.map(lambda run: wrong_parts(program, *run), runs))
+    tried = len(runs) * len(PARTS)
     if len(kinds) != 6:
         wrong += 1
         print(f"FAILED: the seeds draw only {sorted(kinds)}")
