@@ -1,0 +1,4 @@
+pub mod Outgoing
+pub mod Puts
+pub mod States
+pub mod Promised
