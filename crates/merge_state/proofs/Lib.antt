@@ -1,0 +1,11 @@
+mod Captures
+mod Commuting
+mod Lines
+mod Links
+mod Marks
+mod Names
+mod Ordered
+mod Pushed
+mod Queues
+mod Stepped
+mod Totals

@@ -1,0 +1,3 @@
+pub mod Queues
+pub mod States
+pub mod Promised
