@@ -1,3 +1,4 @@
+pub mod Codes
 pub mod Parsers
 pub mod Groupers
 pub mod Processors

@@ -1,0 +1,16 @@
+pub mod Places
+pub mod Accepted
+pub mod Bounds
+pub mod Moved
+pub mod Changed
+pub mod Extra
+pub mod Chosen
+pub mod Going
+pub mod Recorded
+pub mod Stilled
+pub mod Whole
+pub mod Finishing
+pub mod Joined
+pub mod Beginning
+pub mod Putting
+pub mod Ready

@@ -1,0 +1,4 @@
+pub mod Seen
+pub mod Holds
+pub mod Steps
+pub mod One
