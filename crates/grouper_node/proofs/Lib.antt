@@ -1,0 +1,10 @@
+pub mod Lists
+pub mod Works
+pub mod Stepping
+pub mod Polling
+pub mod Putting
+pub mod Taking
+pub mod Resting
+pub mod Turning
+pub mod Looking
+pub mod Starting
