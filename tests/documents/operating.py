@@ -6,6 +6,7 @@ with '{' stands in samples/site/forth.json; the job in the fences is samples/sit
 the table of filters has expressions that dshark accepts.
 """
 
+import glob
 import json
 import os
 import re
@@ -63,6 +64,14 @@ class Run:
         self.environment = {**os.environ, "PATH": f"{room}/bin:{os.environ['PATH']}"}
         self.environment.pop("DSHARK", None)
 
+    def lacks_tool(self, command):
+        return any(re.search(rf"\b{tool}\b", command) and not shutil.which(tool) for tool in TOOLS)
+
+    def lacks_file(self, command):
+        """Whether it reads a file that is not there since the command that writes it was skipped."""
+        read = re.findall(r"(?<!>)\b[\w.?*-]+\.(?:pcap|report)\b", command)
+        return self.skipped > 0 and any(not glob.glob(os.path.join(self.folder, file)) for file in read)
+
     def count(self, holds, what):
         self.passed += holds
         self.failed += not holds
@@ -73,7 +82,7 @@ class Run:
         if command.startswith("cd "):
             self.folder = os.path.join(self.folder, command[3:])
             return
-        if any(re.search(rf"\b{tool}\b", command) and not shutil.which(tool) for tool in TOOLS):
+        if self.lacks_tool(command) or self.lacks_file(command):
             self.skipped += 1
             return
         ended = subprocess.run(["bash", "-c", command], cwd=self.folder, env=self.environment, stdout=subprocess.PIPE,

@@ -1,7 +1,7 @@
 #!/usr/bin/env bash
 # Runs every command of docs/OPERATING.md, in its order and in a copy of the samples, and compares what it prints with
 # what is shown; has dshark check its filters; and holds its examples to the jobs in samples/site. operating.py says how.
-# Commands whose tools are missing (editcap, tshark, parallel) are skipped.
+# Commands whose tools are missing (editcap, tshark, parallel) are skipped, and those that read what these write.
 #
 # The program is $DSHARK where that is set, and else the one that the gate or `make demo` built. It ends with 1 on a
 # difference, and skips with a line, and ends with 0, where python3 or the program is missing.
