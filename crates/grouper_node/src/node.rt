@@ -150,7 +150,8 @@ impl<'a, T: NamedTx, R: NamedRx> GrouperNode<'a, T, R> {
     /// How many frames were taken off link `link` in, up to the end of the type.
     pub fn taken(&self, link: u32) -> u64
         requires { link < length self.now.ins }
-        ensures { result ≡ capped (length (given_on self.now.ins link)) }
+        ensures taken { result ≡ capped (length (given_on self.now.ins link)) }
+        ensures stands { GrouperStands self.now }
     {
         self.work.taken(link)
     }
@@ -158,7 +159,8 @@ impl<'a, T: NamedTx, R: NamedRx> GrouperNode<'a, T, R> {
     /// The row of one link out.
     pub fn row(&self, link: u32, from: u32, to: u32, taken: u64) -> LinkRow
         requires { link < length self.now.outs.links }
-        ensures { (d : TxSeen) → result ≡ row_of (slice_index_or self.now.outs.links link d) from to taken }
+        ensures row { (d : TxSeen) → result ≡ row_of (slice_index_or self.now.outs.links link d) from to taken }
+        ensures stands { GrouperStands self.now }
     {
         self.work.row(link, from, to, taken)
     }
