@@ -1,0 +1,4 @@
+use Rattle.node_lists.proofs.dealing.+gather.Given as goal
+
+abbrev pub decreases-gather : goal.decreases-gather
+decreases-gather g l = l.count
