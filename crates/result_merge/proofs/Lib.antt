@@ -1,0 +1,11 @@
+pub mod Lists
+pub mod Works
+pub mod Stepping
+pub mod Pumping
+pub mod Taking
+pub mod Admitted
+pub mod Writing
+pub mod Resting
+pub mod Turning
+pub mod Looking
+pub mod Starting
