@@ -4,6 +4,9 @@
 
 mod node;
 mod noting;
+mod settling;
+#[cfg(test)]
+mod tests;
 mod work;
 
 pub use node::GrouperNode;

@@ -1,5 +1,6 @@
 //! Where summaries come in and groups go out, whatever the links are.
 ghost use Rattle.std.specs.Prelude.{ℕ, List, [], ◌∷◌, ◌++◌, ◌≡◌, ◌<◌, ◌≤◌, ◌+◌, ◌%◌, Bool, true, false, OnOk, IfOk, None, Some, Ok, length, replicate};
+ghost use Rattle.credit_link.specs.Frames.{has_finish};
 ghost use Rattle.node_frames.specs.declared.frame.Frame.{Frame as FrameSeen};
 ghost use Rattle.node_frames.specs.declared.frame.Frame.TheVariants.{Item, Mark, CaptureEnd, GroupMark, Finish};
 ghost use Rattle.summary_spec.specs.Declaration.{Declared};
@@ -10,7 +11,7 @@ ghost use Rattle.run_law.specs.Shapes.{Shape};
 ghost use Rattle.grouper_state.specs.declared.due_frame.Due.{Due as DueSeen};
 ghost use Rattle.grouper_state.specs.declared.due_frame.Due.TheVariants.{To};
 ghost use Rattle.grouper_state.specs.Outgoing.{still_going, turn_after};
-ghost use Rattle.grouper_state.specs.States.{CanPut, CanTake, IsAtRest, MayTake, due_count, state_is, taken_more, with_due};
+ghost use Rattle.grouper_state.specs.States.{CanPut, CanTake, IsAtRest, MayTake, due_count, state_is, taken_more, taken_on, with_due};
 
 use crate::due_frame::Due;
 use crate::outgoing::Going;
@@ -134,6 +135,14 @@ impl GrouperState {
             }
             None => Ok(self.next_for_all()),
         }
+    }
+
+    /// Whether the end was put, which is put on all links at once.
+    pub fn ended(&self) -> bool
+        ensures { (job : Declared) (shape : Shape) (me : ℕ) (taken put : List (List FrameSeen)) → state_is job shape me taken put self.now
+            → (q : ℕ) → q < length put → has_finish (taken_on put q) ≡ result }
+    {
+        self.finished
     }
 
     /// The next member of the group that is being sent.
