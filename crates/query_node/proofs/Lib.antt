@@ -8,3 +8,5 @@ pub mod Resting
 pub mod Turning
 pub mod Looking
 pub mod Starting
+pub mod Done
+pub mod Settled

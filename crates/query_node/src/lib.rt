@@ -4,6 +4,7 @@
 
 mod node;
 mod noting;
+mod settling;
 mod work;
 
 pub use node::QueryNode;

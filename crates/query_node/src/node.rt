@@ -1,5 +1,5 @@
 //! A query processor between its groupers and the merge.
-ghost use Rattle.std.specs.Prelude.{◌≡◌, ◌<◌, ◌≤◌, [], ℕ, All, Some, None, Ok, Err, IfOk, IfErr, MatchResult, length, slice_index_or};
+ghost use Rattle.std.specs.Prelude.{◌≡◌, ◌<◌, ◌≤◌, [], ℕ, true, false, All, Some, None, Ok, Err, IfOk, IfErr, MatchResult, length, slice_index_or};
 ghost use Rattle.credit_link.specs.declared.turn.NodeFault.{NodeFault};
 ghost use Rattle.credit_link.specs.declared.turn.Turn.TheVariants.{Idle};
 ghost use Rattle.credit_link.specs.Ends.{TxSeen, RxSeen};
@@ -8,6 +8,7 @@ ghost use Rattle.credit_link.specs.Joined.{AreOneLink};
 ghost use Rattle.shuffle_poll.specs.Shuffles.{row_of};
 ghost use Rattle.summary_spec.specs.Job.{declared_of};
 ghost use Rattle.round_law.specs.Rows.{TurnSays, TurnTells};
+ghost use Rattle.round_law.specs.Waits.{IsDone};
 ghost use Rattle.node_lanes.specs.Ends.{given_on};
 ghost use Rattle.node_lanes.specs.Lending.{ShowsOut};
 ghost use Rattle.node_lanes.specs.Pulling.{ChangesLink};
@@ -119,6 +120,18 @@ impl<'a, T: NamedTx, R: NamedRx> QueryNode<'a, T, R> {
                     Err(bad)
                 }
             },
+        }
+    }
+
+    /// Whether it has met no fault, has taken and granted all that comes, and has put and sent all that is due.
+    pub fn done(&self) -> bool
+        ensures done { result ≡ true → (self.now.fault ≡ None) × IsDone (processor_view self.now) }
+        ensures not { result ≡ false → ¬ ((self.now.fault ≡ None) × IsDone (processor_view self.now)) }
+        ensures stands { ProcessorStands self.now }
+    {
+        match self.fault {
+            Some(_) => false,
+            None => self.work.done(),
         }
     }
 

@@ -1,6 +1,7 @@
 //! Where groups come in and answers go out, whatever the links are.
 ghost use Rattle.std.specs.Prelude.{ℕ, List, [], ◌∷◌, ◌++◌, ◌≡◌, ◌<◌, ◌≤◌, ◌+◌, ◌==◌, ◌^◌, true, false, OnOk, IfOk, IsNone, None, Some, length, map, replicate, option_to_list, slice_index_or, slice_set};
 ghost use Rattle.central_report.specs.Answering.{IsAnswerable};
+ghost use Rattle.credit_link.specs.Frames.{has_finish};
 ghost use Rattle.ds_base.specs.Copies.{copies_of};
 ghost use Rattle.node_frames.specs.declared.frame.Frame.{Frame as FrameSeen};
 ghost use Rattle.node_frames.specs.declared.frame.Frame.TheVariants.{GroupHead, Member, GroupMark, Finish};
@@ -162,6 +163,13 @@ impl QueryState {
             Some(least) => self.next_mark(least),
             None => Some(self.next_row()),
         }
+    }
+
+    /// Whether the end was put.
+    pub fn ended(&self) -> bool
+        ensures { (job : Declared) (taken : List (List FrameSeen)) (put : List FrameSeen) → state_is job taken put self.now → has_finish put ≡ result }
+    {
+        self.finished
     }
 
     /// The mark, where it has risen.
