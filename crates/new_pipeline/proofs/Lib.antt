@@ -1,0 +1,3 @@
+pub mod Linked
+pub mod Opened
+pub mod Gathered

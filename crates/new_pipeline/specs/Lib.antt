@@ -1,0 +1,4 @@
+pub mod Shapes
+pub mod Opening
+pub mod Rooms
+pub mod Readying
