@@ -5,8 +5,6 @@
 mod node;
 mod noting;
 mod settling;
-#[cfg(test)]
-mod tests;
 mod work;
 
 pub use node::GrouperNode;

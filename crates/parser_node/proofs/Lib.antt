@@ -3,4 +3,4 @@ pub mod Turning
 pub mod Stepping
 pub mod Shown
 pub mod Starting
-pub mod Trying
+pub mod Settled

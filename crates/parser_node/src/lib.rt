@@ -5,8 +5,6 @@
 mod lending;
 mod node;
 mod passes;
-#[cfg(test)]
-mod tests;
 mod turn;
 
 pub use node::ParserNode;

@@ -1,5 +1,5 @@
 //! A parser.
-ghost use Rattle.std.specs.Prelude.{◌≡◌, ◌<◌, ◌≤◌, ◌+◌, ◌/◌, ◌⊎◌, ℕ, List, [], None, Some, Ok, Err, IfOk, IfErr, All, MatchResult, length, map, slice_index_or};
+ghost use Rattle.std.specs.Prelude.{◌≡◌, ◌<◌, ◌≤◌, ◌+◌, ◌/◌, ◌⊎◌, ℕ, true, false, List, [], None, Some, Ok, Err, IfOk, IfErr, All, MatchResult, length, map, slice_index_or};
 ghost use Rattle.ds_base.specs.Outside.{IsFresh};
 ghost use Rattle.credit_link.specs.Ends.{TxSeen};
 ghost use Rattle.credit_link.specs.declared.turn.NodeFault.{NodeFault as Fault};
@@ -7,12 +7,13 @@ ghost use Rattle.credit_link.specs.declared.turn.Turn.TheVariants.{Idle, Done};
 ghost use Rattle.shuffle_poll.specs.Shuffles.{row_of};
 ghost use Rattle.summary_spec.specs.Job.{declared_of};
 ghost use Rattle.round_law.specs.Rows.{TurnSays, TurnTells};
+ghost use Rattle.round_law.specs.Waits.{IsDone};
 ghost use Rattle.node_lanes.specs.Resting.{NoneHeld};
 ghost use Rattle.net_law.specs.Parsers.{ParserStands, ParserGoes, ParserMeets, SomeWaits, HasReadAll, parser_view, parser_tells};
 ghost use Rattle.net_law.specs.Starts.{AreOwn, AreNewOuts, new_parser, new_outs};
 ghost use Rattle.parser_node.specs.Passing.{taken_in};
 
-use crate::turn::turn_over;
+use crate::turn::{done_over, turn_over};
 use credit_link::{LinkRow, LinkTxList, NamedRx, NamedTx, NodeFault, Turn};
 use ds_base::{Source, SourceList};
 use parser_steps::ParserSteps;
@@ -108,6 +109,18 @@ impl<'a, S: Source, T: NamedTx, R: NamedRx> ParserNode<'a, S, T, R> {
                 self.fault = Some(bad);
                 Err(bad)
             }
+        }
+    }
+
+    /// Whether it has met no fault, has read all captures to their ends, and has put and sent all that is due.
+    pub fn done(&self) -> bool
+        ensures done { result ≡ true → (self.now.fault ≡ None) × IsDone (parser_view self.now) }
+        ensures not { result ≡ false → ¬ ((self.now.fault ≡ None) × IsDone (parser_view self.now)) }
+        ensures stands { ParserStands self.now }
+    {
+        match self.fault {
+            Some(_) => false,
+            None => done_over(&self.steps, &self.out),
         }
     }
 

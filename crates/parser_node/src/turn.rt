@@ -1,5 +1,7 @@
-//! A turn over the parts of a parser that has met no fault.
-ghost use Rattle.std.specs.Prelude.{◌<◌, IfOk, IfErr, MatchResult, None, Some};
+//! A turn over the parts of a parser that has met no fault, and whether it is done.
+ghost use Rattle.std.specs.Prelude.{◌≡◌, ◌<◌, true, false, IfOk, IfErr, MatchResult, None, Some};
+ghost use Rattle.round_law.specs.Waits.{IsDone};
+ghost use Rattle.net_law.specs.Parsers.{parser_view};
 ghost use Rattle.parser_steps.specs.Seen.{seen_of};
 ghost use Rattle.parser_steps.specs.Holds.{ParserHolds};
 ghost use Rattle.parser_node.specs.Passing.{MeetsFault};
@@ -41,4 +43,19 @@ pub(crate) fn turn_over<'a, S: Source, T: NamedTx, R: NamedRx>(
         Ok(moved) => Ok(answer_by(out, moved)),
         Err(bad) => Err(bad),
     }
+}
+
+/// Whether all captures have ended, and all that is due was put and sent.
+pub(crate) fn done_over<'a, S: Source, T: NamedTx, R: NamedRx>(
+    steps: &ParserSteps<'a, S>,
+    out: &Shuffle<T, R>,
+) -> bool
+    requires holds { ParserHolds steps.now out.now None }
+    ensures done { result ≡ true → IsDone (parser_view (seen_of steps.now out.now None)) }
+    ensures not { result ≡ false → ¬ IsDone (parser_view (seen_of steps.now out.now None)) }
+{
+    if !steps.finished() {
+        return false;
+    }
+    out.settled()
 }

@@ -128,6 +128,13 @@ impl<'a, S: Source> ParserSteps<'a, S> {
         )
     }
 
+    /// Whether all captures have ended and the end was put on each link.
+    pub fn finished(&self) -> bool
+        ensures { result ≡ self.now.finished }
+    {
+        self.finished
+    }
+
     /// The sources of its captures, as they were left.
     pub fn close(self) -> SourceList<S>
         ensures sources { map S.seen result.items ≡ self.entry.sources }
