@@ -1,0 +1,4 @@
+pub mod Columns
+pub mod Stacked
+pub mod Words
+pub mod Unpacked
