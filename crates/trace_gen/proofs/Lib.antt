@@ -1,0 +1,10 @@
+pub mod Lengths
+pub mod Walking
+pub mod Times
+pub mod Counting
+pub mod Filing
+pub mod Listing
+pub mod Slices
+pub mod ReadBack
+pub mod SampleFields
+pub mod SampleLawful
