@@ -1,0 +1,4 @@
+pub mod Looks
+pub mod Ahead
+pub mod Stepping
+pub mod Meeting

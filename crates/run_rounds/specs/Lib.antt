@@ -1,0 +1,4 @@
+pub mod Faults
+pub mod Looked
+pub mod Rounds
+pub mod Runs
