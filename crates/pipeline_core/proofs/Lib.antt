@@ -1,0 +1,4 @@
+pub mod Holding
+pub mod Gathering
+pub mod Opened
+pub mod Ended

@@ -1,0 +1,5 @@
+pub mod Listed
+pub mod Numbered
+pub mod Moments
+pub mod Agreeing
+pub mod Staying
