@@ -11,7 +11,7 @@ use Rattle.job_inputs.proofs.JobCaptures.{as_many_files}
 use Rattle.summary_spec.specs.Declaration.{Declared}
 use Rattle.summary_spec.specs.Job.{declared_of}
 use Rattle.summary_spec.specs.Lawful.{IsLawful}
-use Rattle.node_runs.proofs.merges.captures.reported.Goals as goal
+use Rattle.merge_runs.proofs.captures.reported.Goals as goal
 
 length-counts : (job : Declared) (capture : ℕ) (files : List (List ℕ)) → length (counts_from job capture files) ≡ length files
 length-counts job capture [] = refl
@@ -41,10 +41,3 @@ central_text-requires-clause-counts g c =
     as_many_counts job job.files (g.F.Folder.seen c.args.folder.now) (g.F.Folder.seen c.gather_captures.new.folder)
     gathered.accepted.items gathered.counts.items c.in_ok-gathered.ensures.ends
     ∙ length-map c.args.job.now.files.items (λ list. list.items) ∙ as_many_files c.args.job.now
-
-pub stamp_order-requires : goal.stamp_order-requires
-stamp_order-requires g c =
-    let job = declared_of c.args.job.now in
-    let gathered = c.in_ok-gathered.gathered in
-    (are_reportable job (g.F.Folder.seen c.args.folder.now) (g.F.Folder.seen c.gather_captures.new.folder)
-    gathered.accepted.items gathered.counts.items c.args.job.now.lawful c.accepted_reportable.ensures c.in_ok-gathered.ensures.ends).differ

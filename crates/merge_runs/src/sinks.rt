@@ -2,48 +2,45 @@
 
 use ds_base::{Failed, KeyList, MemSink, Sink};
 use std::alloc::Global;
+use std::cell::Cell;
 use std::test::Fail;
 
-/// A sink in memory that compares what it holds with a report behind each write.
+/// How many bytes of the report a sink holds; none where it has held others.
+pub(crate) type Watch = Cell<Option<usize>>;
+
+/// A sink in memory that compares what it holds with a report behind each write, and tells whoever watches it.
 #[derive(Drop)]
-pub(super) struct WatchedSink {
+pub(crate) struct WatchedSink<'w> {
     sink: MemSink,
     report: Vec<u8>,
-    /// Whether what it holds was no front of the report.
-    strayed: bool,
+    watch: &'w Watch,
 }
 
-impl WatchedSink {
+impl<'w> WatchedSink<'w> {
     /// A sink that takes at most so many bytes a write, and fails the one of this number.
-    pub(super) fn new(
+    pub(crate) fn new(
         alloc: Global,
         report: &str,
         piece: u32,
         failing: Option<u32>,
-    ) -> Result<WatchedSink, Fail> {
+        watch: &'w Watch,
+    ) -> Result<WatchedSink<'w>, Fail> {
         let mut numbers = KeyList::new(alloc);
         if let Some(number) = failing {
             let Ok(()) = numbers.push(number) else {
                 return Err(Fail::from("no memory"));
             };
         }
+        watch.set(Some(0));
         Ok(WatchedSink {
             sink: MemSink::new(alloc, piece.max(1), numbers),
             report: report.as_bytes().to_vec(alloc)?,
-            strayed: false,
+            watch,
         })
-    }
-
-    /// How many bytes it holds, where they are a front of the report and were one behind each write.
-    pub(super) fn written(&self) -> Option<usize> {
-        if self.strayed {
-            return None;
-        }
-        Some(self.sink.bytes().len())
     }
 }
 
-impl Sink for WatchedSink {
+impl<'w> Sink for WatchedSink<'w> {
     ghost seen = { λ watched. ⟦<MemSink as Sink>⟧.seen watched.sink };
 
     fn write(&mut self, piece: &[u8]) -> Result<usize, Failed> {
@@ -51,8 +48,11 @@ impl Sink for WatchedSink {
             Ok(n) => Ok(n),
             Err(bad) => Err(bad),
         };
-        if !self.report.starts_with(self.sink.bytes()) {
-            self.strayed = true;
+        let held = self.sink.bytes();
+        if self.report.starts_with(held) && self.watch.get().is_some() {
+            self.watch.set(Some(held.len()));
+        } else {
+            self.watch.set(None);
         }
         taken
     }

@@ -1,20 +1,15 @@
-//! A job over three captures in memory, and what the plain programs make of these: the groups, how the records fared, and
-//! the report.
+//! A job over three captures in memory, and the report that the plain program makes of these.
 
 use central_report::{accepted_reportable, central_text};
-use ds_base::{CountsList, FileList, Folder, GroupList, MemFolder, NamedFile, SummaryList, Text};
+use ds_base::{FileList, Folder, MemFolder, NamedFile, Text};
 use job_inputs::gather_captures;
 use std::alloc::Global;
 use std::test::Fail;
 use summary_spec::Job;
-use window_grouper::{central, is_in_stamp_order, stamp_order};
 
 /// Loops by the time to live, within 100 nanoseconds; a record may be 10 late.
 const JOB: &str =
     r#"{"version":1,"captures":[{"name":"s1","file":"0"},{"name":"s2","file":"1"},{"name":"s3","file":"2"}],"vars":[{"name":"id","take":["ipv4[-1].id"]},{"name":"ttl","take":["ipv4[-1].ttl"]}],"key":["id"],"window":100,"skew":10,"query":{"kind":"loop","hop":"ttl"},"profile":true}"#;
-
-/// The window of the job.
-const WINDOW: u64 = 100;
 
 /// A record: its time in nanoseconds behind the first second of 1970, and the identification and the time to live of
 /// its packet, which is no IP where the first is 0.
@@ -52,55 +47,27 @@ const RECORDS: [&[Record]; 3] = [
     ],
 ];
 
-/// What the plain programs make of the captures.
+/// The job, and the report of its captures by the plain program.
 #[derive(Drop)]
-pub(super) struct Plain {
-    pub(super) job: Job,
-    pub(super) groups: GroupList,
-    pub(super) counts: CountsList,
-    pub(super) report: Text,
+pub(crate) struct Plain {
+    pub(crate) job: Job,
+    pub(crate) report: Text,
 }
 
 impl Plain {
-    pub(super) fn new(alloc: Global) -> Result<Plain, Fail> {
+    pub(crate) fn new(alloc: Global) -> Result<Plain, Fail> {
         let job = Job::read(alloc, JOB.as_bytes()).ok().ok_or("refused")?;
         let mut folder = MemFolder::new(alloc, files(alloc)?, 64, Vec::new(alloc));
-        let (groups, counts, report) = reported(alloc, &job, &mut folder)?;
-        Ok(Plain {
-            job,
-            groups,
-            counts,
-            report,
-        })
+        let report = reported(alloc, &job, &mut folder)?;
+        Ok(Plain { job, report })
     }
 }
 
-// The groups of a job's captures, the counts, and the report.
-fn reported<F: Folder>(
-    alloc: Global,
-    job: &Job,
-    folder: &mut F,
-) -> Result<(GroupList, CountsList, Text), Fail> {
+// The report of a job over its captures.
+fn reported<F: Folder>(alloc: Global, job: &Job, folder: &mut F) -> Result<Text, Fail> {
     let gathered = gather_captures(alloc, job, folder)?;
     accepted_reportable();
-    let report = central_text(alloc, job, &gathered.accepted, &gathered.counts)?;
-    let places = stamp_order(alloc, &gathered.accepted)?;
-    let groups = groups(alloc, &gathered.accepted, &places)?;
-    Ok((groups, gathered.counts, report))
-}
-
-// The groups of the summaries at these places of a list.
-fn groups(alloc: Global, list: &SummaryList, places: &[u64]) -> Result<GroupList, Fail> {
-    let mut ordered = SummaryList::new(alloc);
-    for place in places {
-        if *place >= list.len() || ordered.push(*list.get(*place)).is_err() {
-            return Err(Fail::from("no such place, or no memory"));
-        }
-    }
-    if !is_in_stamp_order(&ordered) {
-        return Err(Fail::from("not in stamp order"));
-    }
-    Ok(central(alloc, &ordered, WINDOW)?)
+    Ok(central_text(alloc, job, &gathered.accepted, &gathered.counts)?)
 }
 
 // The files of the captures.

@@ -1,8 +1,7 @@
 //! Frames that may not stand where they come.
 
-use super::captures::Plain;
-use super::runs::run;
-use super::sinks::WatchedSink;
+use crate::captures::Plain;
+use crate::runs::{Way, run};
 use credit_link::{LinkBad, NodeFault};
 use ds_base::{Answer, Counts, Nums, ProfileRow, Stamp, Verdict};
 use node_frames::Frame;
@@ -101,12 +100,16 @@ fn a_frame_that_may_not_stand_is_refused_at_its_offset(rt: HostRuntime) -> Resul
     for n in 0..12 {
         let (link, a, b, at) = refused(n);
         let scripts = scripts_of(alloc, link, &a, &b)?;
-        let mut sink = WatchedSink::new(alloc, "", 1, None)?;
-        let told = run(alloc, &plain.job, 2, scripts, u64::from(n), &mut sink)?;
+        let way = Way {
+            seed: u64::from(n),
+            piece: 1,
+            failing: None,
+        };
+        let end = run(alloc, &plain, 2, scripts, way)?;
         let bad = LinkBad::Order { at };
         let fault = Err(NodeFault::Link { link, bad });
-        assert_eq!(rt; told, (fault, fault), "refusal {n}");
-        assert!(rt; sink.written() == Some(0), "refusal {n}");
+        assert_eq!(rt; (end.told, end.again), (fault, fault), "refusal {n}");
+        assert!(rt; end.written == Some(0), "refusal {n}");
     }
     Ok(())
 }
