@@ -5,18 +5,15 @@ use std::alloc::{AllocError, Global};
 use std::process::Abort;
 use std::test::Fail;
 
-/// How the job of this number goes on.
-fn members(n: u64) -> &'static str {
-    match n % 6 {
-        0 => r#""window":30,"skew":0,"query":{"kind":"loop","hop":"ttl"}}"#,
-        1 => r#""window":100,"skew":20,"query":{"kind":"drop","exits":["s3"]}}"#,
-        2 => r#""window":0,"skew":50,"query":{"kind":"all"}}"#,
-        3 => r#""window":60,"profile":true,"skew":50,"query":{"kind":"path","allow":["s1 * s3"]}}"#,
-        4 =>
-            r#""window":1000,"profile":true,"skew":5,"query":{"kind":"test","expr":"first(ttl) - last(ttl)"}}"#,
-        _ => r#""window":100,"skew":1000,"filter":"id != 3","query":{"kind":"loop","hop":"ttl"}}"#,
-    }
-}
+/// How the jobs go on.
+const MEMBERS: [&str; 6] = [
+    r#""window":30,"skew":0,"query":{"kind":"loop","hop":"ttl"}}"#,
+    r#""window":100,"skew":20,"query":{"kind":"drop","exits":["s3"]}}"#,
+    r#""window":0,"skew":50,"query":{"kind":"all"}}"#,
+    r#""window":60,"profile":true,"skew":50,"query":{"kind":"path","allow":["s1 * s3"]}}"#,
+    r#""window":1000,"profile":true,"skew":5,"query":{"kind":"test","expr":"first(ttl) - last(ttl)"}}"#,
+    r#""window":100,"skew":1000,"filter":"id != 3","query":{"kind":"loop","hop":"ttl"}}"#,
+];
 
 // At most 15 records, whose times rise and sometimes fall, with four identifications and now and then none.
 fn records(alloc: Global, seed: u64) -> Result<Vec<Record>, AllocError> {
@@ -46,7 +43,7 @@ fn one_to_three(drawn: u64) -> u32 {
 
 // Whether the run of this number has the report of the plain program at its end, and a front of it after some turns.
 fn is_as_central(alloc: Global, n: u64) -> Result<bool, Fail> {
-    let job = job_of(alloc, members(n))?;
+    let job = job_of(alloc, MEMBERS[(n % 6) as usize])?;
     let a = records(alloc, n.wrapping_mul(3))?;
     let b = records(alloc, n.wrapping_mul(3).wrapping_add(1))?;
     let c = records(alloc, n.wrapping_mul(3).wrapping_add(2))?;

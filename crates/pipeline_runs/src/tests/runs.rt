@@ -83,16 +83,9 @@ pub(super) fn shape_of(parsers: u32, groupers: u32, processors: u32, credits: u3
     }
 }
 
-// The source of one capture more.
-fn add_source(
-    alloc: Global,
-    sources: &mut SourceList<MemSource>,
-    c: u32,
-    bytes: &[u8],
-    way: Way,
-) -> Result<(), Fail>
-    requires { All IsFresh (map ⟦<MemSource as Source>⟧.seen sources.old.items) }
-    ensures fresh { OnOk result (All IsFresh (map ⟦<MemSource as Source>⟧.seen sources.new.items)) }
+// The source of a capture.
+fn source(alloc: Global, c: u32, bytes: &[u8], way: Way) -> Result<MemSource, Fail>
+    ensures fresh { IfOk result (λ source. IsFresh (⟦<MemSource as Source>⟧.seen source)) }
 {
     let mut failing = KeyList::new(alloc);
     if let Some((of, number)) = way.failing_read {
@@ -100,7 +93,15 @@ fn add_source(
             return Err(Fail::from("no memory"));
         }
     }
-    let source = MemSource::new(bytes.to_vec(alloc)?, way.read.max(1), failing);
+    Ok(MemSource::new(bytes.to_vec(alloc)?, way.read.max(1), failing))
+}
+
+// One source more.
+fn add_source(sources: &mut SourceList<MemSource>, source: MemSource) -> Result<(), Fail>
+    requires all { All IsFresh (map ⟦<MemSource as Source>⟧.seen sources.old.items) }
+    requires one { IsFresh (⟦<MemSource as Source>⟧.seen source) }
+    ensures fresh { OnOk result (All IsFresh (map ⟦<MemSource as Source>⟧.seen sources.new.items)) }
+{
     let Ok(()) = sources.push(source) else {
         return Err(Fail::from("no memory"));
     };
@@ -109,13 +110,14 @@ fn add_source(
 
 // The sources of all captures.
 fn sources_of(alloc: Global, files: &FileList, way: Way) -> Result<SourceList<MemSource>, Fail>
-    ensures { IfOk result (λ sources. All IsFresh (map ⟦<MemSource as Source>⟧.seen sources.items)) }
+    ensures fresh { IfOk result (λ sources. All IsFresh (map ⟦<MemSource as Source>⟧.seen sources.items)) }
 {
     let mut sources = SourceList::new(alloc);
     'files: for c in 0..files.len() {
         let bytes = files.get(c).bytes.as_slice();
         let number = u32::try_from(c).unwrap_or(u32::MAX);
-        add_source(alloc, &mut sources, number, bytes, way)?;
+        let source = source(alloc, number, bytes, way)?;
+        add_source(&mut sources, source)?;
     }
     Ok(sources)
 }
