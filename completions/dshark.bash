@@ -138,7 +138,7 @@ _dshark() {
     word=${word#[\'\"]}
     COMPREPLY=()
     if [ "$COMP_CWORD" -eq 1 ]; then
-        mapfile -t COMPREPLY < <(compgen -W 'count stack check central --help --version' -- "$word")
+        mapfile -t COMPREPLY < <(compgen -W 'count stack check central run sample --help --version' -- "$word")
         return
     fi
     case ${COMP_WORDS[1]} in
@@ -146,14 +146,20 @@ _dshark() {
         stack) plain=(CAPTURE) options=(--port --field) ;;
         check) plain=(JOB) options=() ;;
         central) plain=(JOB) options=() ;;
+        run) plain=(JOB) options=(--parsers --groupers --processors --credits) ;;
+        sample) plain=(N) options=(--parsers --groupers --processors --credits) ;;
         --help) plain=() options=() ;;
         --version) plain=() options=() ;;
         *) return ;;
     esac
     # The value of an option, or the word of that number which the command needs.
     case $before in
+        --credits) kind=N ;;
         --field) kind=FIELD ;;
+        --groupers) kind=N ;;
+        --parsers) kind=N ;;
         --port) kind=N ;;
+        --processors) kind=N ;;
         *)
             for ((at = 2; at < COMP_CWORD; at++)); do
                 case ${COMP_WORDS[at]} in

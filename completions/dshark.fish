@@ -142,5 +142,16 @@ complete -c dshark -n 'test (count (commandline -opc)) -eq 1' -a 'check' -d 'Rea
 complete -c dshark -n '__fish_seen_subcommand_from check; and test (count (commandline -opc)) -eq 2' -F
 complete -c dshark -n 'test (count (commandline -opc)) -eq 1' -a 'central' -d 'Reads every capture that JOB names, and prints groups, delays and counts'
 complete -c dshark -n '__fish_seen_subcommand_from central; and test (count (commandline -opc)) -eq 2' -F
+complete -c dshark -n 'test (count (commandline -opc)) -eq 1' -a 'run' -d 'Prints the report of central, line by line as soon as each is settled'
+complete -c dshark -n '__fish_seen_subcommand_from run' -F
+complete -c dshark -n '__fish_seen_subcommand_from run' -l parsers -x -d 'how many nodes read captures, 1 to 16 (default 2)'
+complete -c dshark -n '__fish_seen_subcommand_from run' -l groupers -x -d 'how many gather the copies, 1 to 16 (default 2)'
+complete -c dshark -n '__fish_seen_subcommand_from run' -l processors -x -d 'how many judge them, 1 to 16 (default 2)'
+complete -c dshark -n '__fish_seen_subcommand_from run' -l credits -x -d 'frames under way on a link, 1 to 1024 (default 16)'
+complete -c dshark -n 'test (count (commandline -opc)) -eq 1' -a 'sample' -d 'Runs over captures made of the number N (below 2^64), and prints totals'
+complete -c dshark -n '__fish_seen_subcommand_from sample' -l parsers -x -d 'how many nodes read captures, 1 to 16 (default 2)'
+complete -c dshark -n '__fish_seen_subcommand_from sample' -l groupers -x -d 'how many gather the copies, 1 to 16 (default 2)'
+complete -c dshark -n '__fish_seen_subcommand_from sample' -l processors -x -d 'how many judge them, 1 to 16 (default 2)'
+complete -c dshark -n '__fish_seen_subcommand_from sample' -l credits -x -d 'frames under way on a link, 1 to 1024 (default 16)'
 complete -c dshark -n 'test (count (commandline -opc)) -eq 1' -a '--help' -d 'Prints this text'
 complete -c dshark -n 'test (count (commandline -opc)) -eq 1' -a '--version' -d 'Prints the version'

@@ -53,7 +53,7 @@ offered() { # WORD..
         _dshark
         printf "%s\n" "${COMPREPLY[@]}" | sort | tr "\n" " "' bash "$@" 2>&1
 }
-is 'the commands' '--help --version central check count stack ' "$(offered dshark '')"
+is 'the commands' '--help --version central check count run sample stack ' "$(offered dshark '')"
 is 'a command' 'central check count ' "$(offered dshark c | sed 's/stack //')"
 is 'a field' 'ipv4[0].id ipv4[0].ihl ' "$(offered dshark count 'ipv4[0].i')"
 is 'a field in quotes' 'udp[-1].dport ' "$(offered dshark count "'udp[-1].d")"
@@ -65,6 +65,7 @@ is 'the value of an option' 'gre[-1].key gre[0].key ' "$(offered dshark stack a 
 is 'the value after =' 'vxlan[-1].vni vxlan[0].vni ' "$(offered dshark stack --field = vxlan | tr ' ' '\n' | grep vni | tr '\n' ' ')"
 is 'a capture after an option' 'samples/one-link.pcap ' "$(offered dshark stack --port 4789 samples/one)"
 is 'options after the capture' '--field --port ' "$(offered dshark stack a '')"
+is 'the options of another command' '--credits --groupers --parsers --processors ' "$(offered dshark sample 7 '')"
 is 'nothing more' ' ' "$(offered dshark --help '')"
 is 'no such command' ' ' "$(offered dshark walk '')"
 if command -v zsh >/dev/null; then is zsh '' "$(zsh -n completions/_dshark 2>&1)"; fi

@@ -4,14 +4,24 @@ use Rattle.std.proofs.lemmas.List.{take_all}
 use Rattle.command_words.specs.declared.table.Name.{Name}
 use Rattle.command_words.specs.declared.reading.Read.{Read}
 use Rattle.command_words.specs.declared.command.Command.{Command}
+use Rattle.command_words.specs.declared.command.Sizes.{Sizes}
 use Rattle.command_words.specs.CommandTable.{command_word, plain_kinds, option_kind}
 use Rattle.command_words.specs.CommandLine.{Part, spell, plain_words, values_for, Have, AtMostOne, IsLine}
-use Rattle.command_words.specs.Words.{Asked, Accepts, Means, Says, NumberOr, FieldOr, command_of}
-use Rattle.command_words.specs.Words.Asked.{AskedCount, AskedStack, AskedCheck, AskedCentral, AskedHelp, AskedVersion}
+use Rattle.command_words.specs.Words.{Asked, Accepts, Means, Says, HasSizes, NumberOr, FieldOr, command_of}
+use Rattle.command_words.specs.Words.Asked.{AskedCount, AskedStack, AskedCheck, AskedCentral, AskedRun, AskedSample, AskedHelp, AskedVersion}
 use Rattle.command_words.specs.Command.{asked_of}
 use Rattle.command_words.specs.Reading.{StandsFor, Stands, shown_words, shown_values, given_values}
 use Rattle.command_words.proofs.Names.{one_command}
 use Rattle.command_words.proofs.Next.{words_read, whole, whole_waiting}
+
+-- the sizes depend on the values alone
+same_sizes : (s : Sizes) (f g : ℕ → List (List ℕ)) → ((k : ℕ) → f k ≡ g k) → HasSizes f s → HasSizes g s
+same_sizes s f g e h = record {
+  parsers = subst (λ x. NumberOr 2 x s.parsers) (e 0) h.parsers;
+  groupers = subst (λ x. NumberOr 2 x s.groupers) (e 1) h.groupers;
+  processors = subst (λ x. NumberOr 2 x s.processors) (e 2) h.processors;
+  credits = subst (λ x. NumberOr 16 x s.credits) (e 3) h.credits;
+}
 
 -- what is asked depends on the values alone
 pub same_means : (a : Asked) (plain : List (List ℕ)) (f g : ℕ → List (List ℕ)) → ((k : ℕ) → f k ≡ g k) → Means a plain f → Means a plain g
@@ -20,6 +30,8 @@ same_means (AskedStack port field file) plain f g e m =
     (m.0, subst (λ x. NumberOr 4789 x port) (e 0) m.1, subst (λ x. FieldOr x field) (e 1) m.2)
 same_means (AskedCheck job) plain f g e m = m
 same_means (AskedCentral job) plain f g e m = m
+same_means (AskedRun job sizes) plain f g e m = (m.0, same_sizes sizes f g e m.1)
+same_means (AskedSample number sizes) plain f g e m = (m.0, same_sizes sizes f g e m.1)
 same_means AskedHelp plain f g e m = m
 same_means AskedVersion plain f g e m = m
 

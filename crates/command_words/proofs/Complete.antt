@@ -7,68 +7,80 @@ use Rattle.field_table.specs.declared.kind.Kind.TheVariants.{Eth}
 use Rattle.field_table.specs.FieldText.{field_text}
 use Rattle.command_words.specs.declared.kind.WordKind.{WordKind}
 use Rattle.command_words.specs.declared.kind.WordKind.TheVariants.{Field, Number, File}
+use Rattle.command_words.specs.declared.command.Sizes.{Sizes}
 use Rattle.command_words.specs.declared.table.Name.{Name}
-use Rattle.command_words.specs.declared.table.Name.TheVariants.{Count, Stack, Check, Central, Help, Version}
+use Rattle.command_words.specs.declared.table.Name.TheVariants.{Count, Stack, Check, Central, Run, Sample, Help, Version}
 use Rattle.command_words.specs.Kinds.{HasKind, IsNumber, IsRequired}
-use Rattle.command_words.specs.CommandTable.{command_word, plain_kinds, options_of, option_word, option_kind}
+use Rattle.command_words.specs.CommandTable.{command_word, plain_kinds, options_of, option_word, option_kind, size_options}
 use Rattle.command_words.specs.CommandLine.{Part, spell, plain_words, values_for, AreInForm, Have, AtMostOne, AreParts, IsLine}
 use Rattle.command_words.specs.CommandLine.Part.{Plain, Apart}
-use Rattle.command_words.specs.Words.{Asked, Begins, Says, NumberOr, FieldOr}
-use Rattle.command_words.specs.Words.Asked.{AskedCount, AskedStack, AskedCheck, AskedCentral, AskedHelp, AskedVersion}
+use Rattle.command_words.specs.Words.{Asked, Begins, Says, HasSizes, NumberOr, FieldOr}
+use Rattle.command_words.specs.Words.Asked.{AskedCount, AskedStack, AskedCheck, AskedCentral, AskedRun, AskedSample, AskedHelp, AskedVersion}
 use Rattle.command_words.specs.Reading.{StandsFor, Goes}
 use Rattle.command_words.proofs.Parts.{plain_words-append, values_for-append, spell-append, form-append}
 use Rattle.command_words.proofs.KindLists.{have-append}
 use Rattle.command_words.proofs.Steps.{with_apart}
 use Rattle.command_words.proofs.Asking.{line_of, accepts}
 
--- some word of a kind, that may stand where one is needed
-record Sample (kind : WordKind) : Type 0 where
+-- an example of a kind: a word that may stand where one is needed
+record Example (kind : WordKind) : Type 0 where
   word : List ℕ
   has : HasKind kind word
   required : IsRequired word
 
-abbrev Samples : List WordKind → Type 0
-Samples [] = Unit {0}
-Samples (kind ∷ kinds) = Sample kind × Samples kinds
+abbrev Examples : List WordKind → Type 0
+Examples [] = Unit {0}
+Examples (kind ∷ kinds) = Example kind × Examples kinds
 
 a_field : FieldRef
 a_field = record { kind = Eth; inside = false; steps = 0; field = 0; is_near = omega arith; is_field = omega arith }
 
-of_field : Sample Field
+of_field : Example Field
 unfolding field_text a_field
 of_field = record { word = field_text a_field; has = (a_field, refl); required = λ e. absurd (omega (arith, e)) }
 
 digit : (d : ℕ) → d ≤ 9 → IsNumber ((48 + d) ∷ []) d
 digit d small = record { some = omega arith; few = omega arith; each = search rules; value = search rules }
 
-of_window : Sample (Number 0 hour)
-of_window = record { word = 48 ∷ []; has = (0, digit 0 (omega arith), omega arith, omega arith); required = λ e. absurd (omega (arith, e)) }
+of_zero : (most : ℕ) → Example (Number 0 most)
+of_zero most = record { word = 48 ∷ []; has = (0, digit 0 (omega arith), omega arith, omega arith); required = λ e. absurd (omega (arith, e)) }
 
-of_port : Sample (Number 1 65535)
-of_port = record { word = 49 ∷ []; has = (1, digit 1 (omega arith), omega arith, omega arith); required = λ e. absurd (omega (arith, e)) }
+of_one : (most : ℕ) → 1 ≤ most → Example (Number 1 most)
+of_one most h = record { word = 49 ∷ []; has = (1, digit 1 (omega arith), omega arith, h); required = λ e. absurd (omega (arith, e)) }
 
-of_file : Sample File
+of_file : Example File
 of_file = record { word = 97 ∷ []; has = tt; required = λ e. absurd (omega (arith, e)) }
 
-of_plain : (c : Name) → Samples (plain_kinds c)
-of_plain Count = (of_field, (of_window, (of_file, tt)))
+of_plain : (c : Name) → Examples (plain_kinds c)
+of_plain Count = (of_field, (of_zero hour, (of_file, tt)))
 of_plain Stack = (of_file, tt)
 of_plain Check = (of_file, tt)
 of_plain Central = (of_file, tt)
+of_plain Run = (of_file, tt)
+of_plain Sample = (of_zero 18446744073709551615, tt)
 of_plain Help = tt
 of_plain Version = tt
 
-of_option : (c : Name) (k : ℕ) → k < length (options_of c) → Sample (option_kind c k)
+of_size : (k : ℕ) → k < length size_options → Example (option_kind Run k)
+of_size zero h = of_one 16 (omega arith)
+of_size (suc zero) h = of_one 16 (omega arith)
+of_size (suc (suc zero)) h = of_one 16 (omega arith)
+of_size (suc (suc (suc zero))) h = of_one 1024 (omega arith)
+of_size (suc (suc (suc (suc k)))) h = absurd (omega arith)
+
+of_option : (c : Name) (k : ℕ) → k < length (options_of c) → Example (option_kind c k)
 of_option Count k h = absurd (omega arith)
 of_option Check k h = absurd (omega arith)
 of_option Central k h = absurd (omega arith)
+of_option Run k h = of_size k h
+of_option Sample k h = of_size k h
 of_option Help k h = absurd (omega arith)
 of_option Version k h = absurd (omega arith)
-of_option Stack zero h = of_port
+of_option Stack zero h = of_one 65535 (omega arith)
 of_option Stack (suc zero) h = of_field
 of_option Stack (suc (suc k)) h = absurd (omega arith)
 
-still : (n : ℕ) (kinds : List WordKind) → Samples kinds → Samples (drop n kinds)
+still : (n : ℕ) (kinds : List WordKind) → Examples kinds → Examples (drop n kinds)
 still zero kinds s = s
 still (suc n) [] s = tt
 still (suc n) (kind ∷ kinds) s = still n kinds s.1
@@ -80,7 +92,7 @@ record Needed (c : Name) (kinds : List WordKind) : Type 0 where
   have : Have kinds (plain_words parts)
   nothing : (k : ℕ) → values_for k parts ≡ []
 
-needed : (c : Name) (kinds : List WordKind) → Samples kinds → Needed c kinds
+needed : (c : Name) (kinds : List WordKind) → Examples kinds → Needed c kinds
 needed c [] s = record { parts = []; form = tt; have = tt; nothing = λ k. refl }
 needed c (kind ∷ kinds) s =
     let n = needed c kinds s.1 in
@@ -123,10 +135,20 @@ record Something (c : Name) (plain : List (List ℕ)) (values : ℕ → List (Li
   asked : Asked
   says : Says c plain values asked
 
-number_of : (vs : List (List ℕ)) → AtMostOne (Number 1 65535) vs → (n : ℕ) × NumberOr 4789 vs n
-number_of [] h = (4789, refl)
-number_of (v ∷ []) h = (h.0, h.1)
-number_of (v ∷ w ∷ vs) h = absurd h
+number_of : (most usual : ℕ) (vs : List (List ℕ)) → AtMostOne (Number 1 most) vs → (n : ℕ) × NumberOr usual vs n
+number_of most usual [] h = (usual, refl)
+number_of most usual (v ∷ []) h = (h.0, h.1)
+number_of most usual (v ∷ w ∷ vs) h = absurd h
+
+sizes_of : (values : ℕ → List (List ℕ)) → ((k : ℕ) → AtMostOne (option_kind Run k) (values k)) → (s : Sizes) × HasSizes values s
+sizes_of values o =
+    let parsers = number_of 16 2 (values 0) (o 0) in
+    let groupers = number_of 16 2 (values 1) (o 1) in
+    let processors = number_of 16 2 (values 2) (o 2) in
+    let credits = number_of 1024 16 (values 3) (o 3) in (
+      record { parsers = parsers.0; groupers = groupers.0; processors = processors.0; credits = credits.0 },
+      record { parsers = parsers.1; groupers = groupers.1; processors = processors.1; credits = credits.1 },
+    )
 
 field_of : (vs : List (List ℕ)) → AtMostOne Field vs → (f : Option FieldRef) × FieldOr vs f
 field_of [] h = (None, tt)
@@ -145,7 +167,7 @@ of_stack : (ws : List (List ℕ)) (values : ℕ → List (List ℕ)) → Have (p
     → ((k : ℕ) → AtMostOne (option_kind Stack k) (values k)) → Something Stack ws values
 of_stack [] values h o = absurd h
 of_stack (a ∷ []) values h o =
-    let n = number_of (values 0) (o 0) in
+    let n = number_of 65535 4789 (values 0) (o 0) in
     let f = field_of (values 1) (o 1) in
     record { asked = AskedStack n.0 f.0 a; says = (refl, (refl, n.1, f.1)) }
 of_stack (a ∷ b ∷ ws) values h o = absurd h.1
@@ -160,11 +182,25 @@ of_central [] values h = absurd h
 of_central (a ∷ []) values h = record { asked = AskedCentral a; says = (refl, refl) }
 of_central (a ∷ b ∷ ws) values h = absurd h.1
 
+of_run : (ws : List (List ℕ)) (values : ℕ → List (List ℕ)) → Have (plain_kinds Run) ws
+    → ((k : ℕ) → AtMostOne (option_kind Run k) (values k)) → Something Run ws values
+of_run [] values h o = absurd h
+of_run (a ∷ []) values h o = let s = sizes_of values o in record { asked = AskedRun a s.0; says = (refl, (refl, s.1)) }
+of_run (a ∷ b ∷ ws) values h o = absurd h.1
+
+of_sample : (ws : List (List ℕ)) (values : ℕ → List (List ℕ)) → Have (plain_kinds Sample) ws
+    → ((k : ℕ) → AtMostOne (option_kind Sample k) (values k)) → Something Sample ws values
+of_sample [] values h o = absurd h
+of_sample (a ∷ []) values h o = let s = sizes_of values o in record { asked = AskedSample h.0.0 s.0; says = (refl, ((a, refl, h.0.1), s.1)) }
+of_sample (a ∷ b ∷ ws) values h o = absurd h.1
+
 something : (c : Name) (ps : List Part) → IsLine c ps → Something c (plain_words ps) (λ k. values_for k ps)
 something Count ps h = of_count (plain_words ps) (λ k. values_for k ps) h.plain
 something Stack ps h = of_stack (plain_words ps) (λ k. values_for k ps) h.plain h.options
 something Check ps h = of_check (plain_words ps) (λ k. values_for k ps) h.plain
 something Central ps h = of_central (plain_words ps) (λ k. values_for k ps) h.plain
+something Run ps h = of_run (plain_words ps) (λ k. values_for k ps) h.plain h.options
+something Sample ps h = of_sample (plain_words ps) (λ k. values_for k ps) h.plain h.options
 something Help ps h = record { asked = AskedHelp; says = (refl, tt) }
 something Version ps h = record { asked = AskedVersion; says = (refl, tt) }
 

@@ -2,9 +2,11 @@ pub mod Asking
 pub mod Complete
 pub mod Going
 pub mod KindLists
+pub mod Limits
 pub mod Names
 pub mod Next
 pub mod Parts
 pub mod Places
+pub mod Shown
 pub mod Steps
 pub mod Taking

@@ -3,10 +3,11 @@ use Rattle.std.proofs.Common.{ℕ, zero, suc, List, [], ◌∷◌, ◌++◌, ◌
 use Rattle.std.specs.Prelude.{◌==◌, if◌then◌else◌}
 use Rattle.std.specs.Str.{bytes_eq}
 use Rattle.std.proofs.lemmas.List.{append_cancel_left}
+use Rattle.command_words.specs.declared.kind.WordKind.{WordKind}
 use Rattle.command_words.specs.declared.table.Name.{Name}
-use Rattle.command_words.specs.declared.table.Name.TheVariants.{Count, Stack, Check, Central, Help, Version}
+use Rattle.command_words.specs.declared.table.Name.TheVariants.{Count, Stack, Check, Central, Run, Sample, Help, Version}
 use Rattle.command_words.specs.Kinds.{IsRequired}
-use Rattle.command_words.specs.CommandTable.{command_word, options_of, option_word}
+use Rattle.command_words.specs.CommandTable.{command_word, options_of, option_word, size_options}
 
 -- whether a word has `=`, and what stands before its first one
 abbrev has_equals : List ℕ → Bool
@@ -17,18 +18,32 @@ abbrev front : List ℕ → List ℕ
 front [] = []
 front (x ∷ xs) = if x == 61 then [] else x ∷ front xs
 
-record IsName (c : Name) (k : ℕ) : Type 0 where
+-- the word of the option of this number, where these are the options
+record IsNameOf (options : List (List ℕ × WordKind)) (word : List ℕ) (k : ℕ) : Type 0 where
   rest : List ℕ
-  dashed : option_word c k ≡ 45 ∷ rest
-  alone : has_equals (option_word c k) ≡ false
-  joined : (v : List ℕ) → has_equals (option_word c k ++ (61 ∷ v)) ≡ true
-  cut : (v : List ℕ) → front (option_word c k ++ (61 ∷ v)) ≡ option_word c k
-  found : position (bytes_eq (option_word c k)) (map (λ o. o.0) (options_of c)) ≡ Some k
+  dashed : word ≡ 45 ∷ rest
+  alone : has_equals word ≡ false
+  joined : (v : List ℕ) → has_equals (word ++ (61 ∷ v)) ≡ true
+  cut : (v : List ℕ) → front (word ++ (61 ∷ v)) ≡ word
+  found : position (bytes_eq word) (map (λ o. o.0) options) ≡ Some k
+
+abbrev IsName : Name → ℕ → Type 0
+IsName c k = IsNameOf (options_of c) (option_word c k) k
+
+-- of the sizes of a pipeline; every command that has them has the same
+is_size : (k : ℕ) → k < length size_options → IsName Run k
+is_size zero h = record { rest = _; dashed = refl; alone = refl; joined = λ v. refl; cut = λ v. refl; found = refl }
+is_size (suc zero) h = record { rest = _; dashed = refl; alone = refl; joined = λ v. refl; cut = λ v. refl; found = refl }
+is_size (suc (suc zero)) h = record { rest = _; dashed = refl; alone = refl; joined = λ v. refl; cut = λ v. refl; found = refl }
+is_size (suc (suc (suc zero))) h = record { rest = _; dashed = refl; alone = refl; joined = λ v. refl; cut = λ v. refl; found = refl }
+is_size (suc (suc (suc (suc k)))) h = absurd (omega arith)
 
 is_name : (c : Name) (k : ℕ) → k < length (options_of c) → IsName c k
 is_name Count k h = absurd (omega arith)
 is_name Check k h = absurd (omega arith)
 is_name Central k h = absurd (omega arith)
+is_name Run k h = is_size k h
+is_name Sample k h = is_size k h
 is_name Help k h = absurd (omega arith)
 is_name Version k h = absurd (omega arith)
 is_name Stack zero h = record { rest = _; dashed = refl; alone = refl; joined = λ v. refl; cut = λ v. refl; found = refl }
@@ -81,11 +96,13 @@ number_of Count = 0
 number_of Stack = 1
 number_of Check = 2
 number_of Central = 3
-number_of Help = 4
-number_of Version = 5
+number_of Run = 4
+number_of Sample = 5
+number_of Help = 6
+number_of Version = 7
 
 words_of_commands : List (List ℕ)
-words_of_commands = command_word Count ∷ command_word Stack ∷ command_word Check ∷ command_word Central ∷ command_word Help ∷ command_word Version ∷ []
+words_of_commands = command_word Count ∷ command_word Stack ∷ command_word Check ∷ command_word Central ∷ command_word Run ∷ command_word Sample ∷ command_word Help ∷ command_word Version ∷ []
 
 found_command : (c : Name) → position (bytes_eq (command_word c)) words_of_commands ≡ Some (number_of c)
 unfolding words_of_commands
@@ -93,6 +110,8 @@ found_command Count = refl
 found_command Stack = refl
 found_command Check = refl
 found_command Central = refl
+found_command Run = refl
+found_command Sample = refl
 found_command Help = refl
 found_command Version = refl
 
@@ -101,6 +120,8 @@ same_number Count Count e = refl
 same_number Stack Stack e = refl
 same_number Check Check e = refl
 same_number Central Central e = refl
+same_number Run Run e = refl
+same_number Sample Sample e = refl
 same_number Help Help e = refl
 same_number Version Version e = refl
 same_number c d e = absurd (omega (arith, e))

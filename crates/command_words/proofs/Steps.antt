@@ -7,7 +7,7 @@ use Rattle.std.proofs.lemmas.List.{append-nil, take_more_set, length-set, length
 use Rattle.command_words.specs.declared.kind.WordKind.TheVariants.{File}
 use Rattle.command_words.specs.declared.kind.WordKind.{WordKind}
 use Rattle.command_words.specs.declared.table.Name.{Name}
-use Rattle.command_words.specs.declared.table.Name.TheVariants.{Count, Stack, Check, Central, Help, Version}
+use Rattle.command_words.specs.declared.table.Name.TheVariants.{Count, Stack, Check, Central, Run, Sample, Help, Version}
 use Rattle.command_words.specs.Kinds.{HasKind, IsRequired}
 use Rattle.command_words.specs.CommandTable.{plain_kinds, options_of, option_word, option_kind}
 use Rattle.command_words.specs.CommandLine.{Part, plain_words, values_for, AtMostOne, AreParts}
@@ -162,24 +162,30 @@ few_words Count = omega arith
 few_words Stack = omega arith
 few_words Check = omega arith
 few_words Central = omega arith
+few_words Run = omega arith
+few_words Sample = omega arith
 few_words Help = omega arith
 few_words Version = omega arith
 
-pub few_options : (c : Name) → length (options_of c) ≤ 2
+pub few_options : (c : Name) → length (options_of c) ≤ 4
 few_options Count = omega arith
 few_options Stack = omega arith
 few_options Check = omega arith
 few_options Central = omega arith
+few_options Run = omega arith
+few_options Sample = omega arith
 few_options Help = omega arith
 few_options Version = omega arith
 
-none_of_two : (k : ℕ) → one_or_none (get_or (None ∷ None ∷ []) k None) ≡ []
-none_of_two zero = refl
-none_of_two (suc zero) = refl
-none_of_two (suc (suc k)) = refl
+none_of_all : (k : ℕ) → one_or_none (get_or (None ∷ None ∷ None ∷ None ∷ []) k None) ≡ []
+none_of_all zero = refl
+none_of_all (suc zero) = refl
+none_of_all (suc (suc zero)) = refl
+none_of_all (suc (suc (suc zero))) = refl
+none_of_all (suc (suc (suc (suc k)))) = refl
 
 -- nothing is read before the first word
-pub started : (c : Name) → StandsFor c 0 ([] ∷ [] ∷ [] ∷ []) (None ∷ None ∷ []) None []
+pub started : (c : Name) → StandsFor c 0 ([] ∷ [] ∷ [] ∷ []) (None ∷ None ∷ None ∷ None ∷ []) None []
 started c =
     record {
       parts = [];
@@ -187,7 +193,7 @@ started c =
       spelled = refl;
       counted = refl;
       plain_read = refl;
-      values_read = λ k. sym (none_of_two k);
+      values_read = λ k. sym (none_of_all k);
       word_room = few_words c;
       value_room = few_options c;
       free = tt;

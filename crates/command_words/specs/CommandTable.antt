@@ -4,7 +4,7 @@ use Rattle.ds_base.specs.Times.{hour}
 use Rattle.command_words.specs.declared.kind.WordKind.{WordKind}
 use Rattle.command_words.specs.declared.kind.WordKind.TheVariants.{Field, Number, File}
 use Rattle.command_words.specs.declared.table.Name.{Name}
-use Rattle.command_words.specs.declared.table.Name.TheVariants.{Count, Stack, Check, Central, Help, Version}
+use Rattle.command_words.specs.declared.table.Name.TheVariants.{Count, Stack, Check, Central, Run, Sample, Help, Version}
 
 -- the command's word; what the words that it needs may be, in order; and the word of each of its
 -- options with what the option's value may be
@@ -12,6 +12,13 @@ pub record CommandRow : Type 0 where
   pub word : List ℕ
   pub plain : List WordKind
   pub options : List (List ℕ × WordKind)
+
+-- the options of a command that runs a pipeline: how many nodes it has of each kind, and how many credits each of its
+-- links
+abbrev pub size_options : List (List ℕ × WordKind)
+size_options =
+    (codes "--parsers", Number 1 16) ∷ (codes "--groupers", Number 1 16) ∷ (codes "--processors", Number 1 16)
+    ∷ (codes "--credits", Number 1 1024) ∷ []
 
 -- the table; a window is at most an hour in nanoseconds
 abbrev pub table_row : Name → CommandRow
@@ -27,6 +34,8 @@ table_row Stack = record {
 }
 table_row Check = record { word = codes "check"; plain = File ∷ []; options = [] }
 table_row Central = record { word = codes "central"; plain = File ∷ []; options = [] }
+table_row Run = record { word = codes "run"; plain = File ∷ []; options = size_options }
+table_row Sample = record { word = codes "sample"; plain = Number 0 18446744073709551615 ∷ []; options = size_options }
 table_row Help = record { word = codes "--help"; plain = []; options = [] }
 table_row Version = record { word = codes "--version"; plain = []; options = [] }
 

@@ -17,7 +17,7 @@ mod words;
 // What is printed for people.
 mod help;
 
-pub use command::Command;
+pub use command::{Command, Sizes};
 pub use help::{HELP, VERSION_LINE};
 pub use words::{Misplaced, read_words};
 

@@ -21,6 +21,10 @@ pub(crate) enum Name {
     Check,
     /// The whole report of a job over its captures.
     Central,
+    /// The same report, by a pipeline.
+    Run,
+    /// The totals of a pipeline over a made sample.
+    Sample,
     /// What the program can be asked.
     Help,
     /// The version of the program.
@@ -31,7 +35,16 @@ pub(crate) enum Name {
 pub(crate) const MOST_WORDS: usize = 3;
 
 /// How many options a command has at most.
-pub(crate) const MOST_OPTIONS: usize = 2;
+pub(crate) const MOST_OPTIONS: usize = 4;
+
+/// The options of a command that runs a pipeline: how many nodes it has of each kind, and how many
+/// credits each of its links.
+const SIZE_OPTIONS: [(&str, WordKind); 4] = [
+    ("--parsers", WordKind::Number(1, 16)),
+    ("--groupers", WordKind::Number(1, 16)),
+    ("--processors", WordKind::Number(1, 16)),
+    ("--credits", WordKind::Number(1, 1024)),
+];
 
 /// What may stand behind the word of a command.
 #[derive(Clone, Copy)]
@@ -67,6 +80,14 @@ pub(crate) fn row_of(command: Name) -> Row
             plain: &[WordKind::File],
             options: &[],
         },
+        Name::Run => Row {
+            plain: &[WordKind::File],
+            options: &SIZE_OPTIONS,
+        },
+        Name::Sample => Row {
+            plain: &[WordKind::Number(0, u64::MAX)],
+            options: &SIZE_OPTIONS,
+        },
         Name::Help | Name::Version => Row {
             plain: &[],
             options: &[],
@@ -84,6 +105,8 @@ pub(crate) fn command_named(word: &str) -> Option<Name>
         "stack" => Some(Name::Stack),
         "check" => Some(Name::Check),
         "central" => Some(Name::Central),
+        "run" => Some(Name::Run),
+        "sample" => Some(Name::Sample),
         "--help" => Some(Name::Help),
         "--version" => Some(Name::Version),
         _ => None,

@@ -1,14 +1,14 @@
 //! Words that are accepted, and the places of words that are refused.
 
-use crate::{Command, HELP, Misplaced, VERSION_LINE, read_words};
+use crate::{Command, HELP, Misplaced, Sizes, VERSION_LINE, read_words};
 use field_table::field;
 use std::alloc::{AllocError, Global};
 use std::test::Fail;
 
 // Lists of words, one word a space, and the place where each is refused.
-static REFUSED: [(&str, u32); 48] = [
+static REFUSED: [(&str, u32); 70] = [
     ("", 0),
-    ("run j", 0),
+    ("walk j", 0),
     ("-h", 0),
     ("Count ipv4[0].id 1 a", 0),
     ("--help=", 0),
@@ -55,6 +55,28 @@ static REFUSED: [(&str, u32); 48] = [
     ("stack a --port 2 --port=3", 4),
     ("stack a --port=2 --field eth[0].dst --port", 5),
     ("--help x", 1),
+    ("run", 1),
+    ("run -j", 1),
+    ("run j k", 2),
+    ("run j --", 2),
+    ("run j --parsers", 3),
+    ("run j --parsers 17", 3),
+    ("run j --parsers=17", 2),
+    ("run j --parsers 2 --parsers", 4),
+    ("run j --groupers=0", 2),
+    ("run j --processors=", 2),
+    ("run j --credits=1025", 2),
+    ("run j --credits -1", 3),
+    ("run j --port 1", 2),
+    ("run j --workers=1", 2),
+    ("run --credits 1", 3),
+    ("run --credits 1 j --groupers 2 --credits=1", 6),
+    ("sample", 1),
+    ("sample seven", 1),
+    ("sample 18446744073709551616", 1),
+    ("sample 000000000000000000007", 1),
+    ("sample 7 8", 2),
+    ("sample 7 --processors 17", 3),
 ];
 
 // The words of a line.
@@ -80,6 +102,17 @@ fn words_are_refused_at_their_first_wrong_one(rt: HostRuntime) -> Result<(), Fai
     Ok(())
 }
 
+// The sizes of these numbers of nodes and credits.
+fn sizes(numbers: [u32; 4]) -> Sizes {
+    let [parsers, groupers, processors, credits] = numbers;
+    Sizes {
+        parsers,
+        groupers,
+        processors,
+        credits,
+    }
+}
+
 #[test]
 fn words_ask_for_a_command_with_its_values(rt: HostRuntime) -> Result<(), Fail> {
     let id = field("ipv4[0].id").ok_or("refused")?;
@@ -93,6 +126,14 @@ fn words_ask_for_a_command_with_its_values(rt: HostRuntime) -> Result<(), Fail> 
         port,
         field,
         file: "a",
+    };
+    let run = |numbers| Command::Run {
+        job: "j",
+        sizes: sizes(numbers),
+    };
+    let sample = |number, numbers| Command::Sample {
+        number,
+        sizes: sizes(numbers),
     };
     let accepted = [
         ("count ipv4[0].id 0 a", count(0, "a")),
@@ -114,6 +155,18 @@ fn words_ask_for_a_command_with_its_values(rt: HostRuntime) -> Result<(), Fail> 
         ),
         ("check j", Command::Check { job: "j" }),
         ("central j", Command::Central { job: "j" }),
+        ("run j", run([2, 2, 2, 16])),
+        ("run --credits=1 j --parsers 16", run([16, 2, 2, 1])),
+        (
+            "run --groupers 3 --processors=05 --credits 1024 --parsers=1 j",
+            run([1, 3, 5, 1024]),
+        ),
+        ("sample 7", sample(7, [2, 2, 2, 16])),
+        ("sample 00000000000000000000", sample(0, [2, 2, 2, 16])),
+        (
+            "sample --processors 16 18446744073709551615",
+            sample(18_446_744_073_709_551_615, [2, 2, 16, 16]),
+        ),
         ("--help", Command::Help),
         ("--version", Command::Version),
     ];
@@ -133,7 +186,16 @@ fn the_text_for_people_fits_a_screen(rt: HostRuntime) {
         assert!(rt; line.len() <= 80, "{line}");
     }
     assert!(rt; HELP.lines().count() <= 40);
-    for command in ["count", "stack", "check", "central", "--help", "--version"] {
+    for command in [
+        "count",
+        "stack",
+        "check",
+        "central",
+        "run",
+        "sample",
+        "--help",
+        "--version",
+    ] {
         assert!(rt; HELP.contains(command), "{command}");
     }
     assert_eq!(rt; VERSION_LINE, "dshark 0.1.0\n");

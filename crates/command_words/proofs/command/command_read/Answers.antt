@@ -1,5 +1,5 @@
 use Rattle.std.proofs.Common.{◌≡◌, Some, length, take, sym, ap, ◌∙◌}
-use Rattle.command_words.specs.declared.table.Name.TheVariants.{Count, Stack, Check, Central}
+use Rattle.command_words.specs.declared.table.Name.TheVariants.{Count, Stack, Check, Central, Run, Sample}
 use Rattle.command_words.specs.CommandTable.{plain_kinds}
 use Rattle.command_words.specs.Words.{Asked, Says}
 use Rattle.command_words.specs.Command.{asked_of}
@@ -56,3 +56,13 @@ returns-in-Central-clause-only c =
     let full : c.args.read.count ≡ length (plain_kinds c.args.command) = c.if-read-row_of.false ∙ ap length c.row_of.ensures.plain in
     made_only c.args.command Central c.args.read (Some c.central_of.result) c.in-Central.is c.in_default.is full
     (c.central_of.ensures.only (given_values (shown_values c.args.read)))
+
+pub returns-in-Run-clause-only : goal.returns-in-Run-clause-only
+returns-in-Run-clause-only c =
+    let full : c.args.read.count ≡ length (plain_kinds c.args.command) = c.if-read-row_of.false ∙ ap length c.row_of.ensures.plain in
+    made_only c.args.command Run c.args.read c.run_of.result c.in-Run.is c.in_default.is full c.run_of.ensures.only
+
+pub returns-in-Sample-clause-only : goal.returns-in-Sample-clause-only
+returns-in-Sample-clause-only c =
+    let full : c.args.read.count ≡ length (plain_kinds c.args.command) = c.if-read-row_of.false ∙ ap length c.row_of.ensures.plain in
+    made_only c.args.command Sample c.args.read c.sample_of.result c.in-Sample.is c.in_default.is full c.sample_of.ensures.only
