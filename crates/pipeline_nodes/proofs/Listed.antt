@@ -14,20 +14,20 @@ use Rattle.net_law.specs.Groupers.{GrouperSeen, GrouperStands, GrouperGoes}
 use Rattle.net_law.specs.Processors.{ProcessorSeen, ProcessorStands, ProcessorGoes}
 use Rattle.net_law.specs.Merges.{MergeSeen, MergeGoes}
 use Rattle.net_law.specs.Ends.{no_rx, tx_at, rx_at}
-use Rattle.net_law.specs.Nets.{NetStands, AreEnds, no_parser, no_grouper, no_processor}
+use Rattle.net_law.specs.Nets.{NetStands, no_parser, no_grouper, no_processor}
 use Rattle.net_law.specs.Steps.{AreLooked, ParserLooked, GrouperLooked, ProcessorLooked, MergeLooked}
 use Rattle.net_law.specs.Turned.{IsAlike}
 use Rattle.net_law.proofs.Turned.{at_or_other}
 use Rattle.pipeline_looks.specs.Links.{AreOnRings, OthersStay}
 use Rattle.pipeline_nodes.specs.Nodes.{net_of}
-use Rattle.pipeline_nodes.specs.Looks.{GrouperIsLookedAt, ProcessorIsLookedAt, MergeIsLookedAt}
+use Rattle.pipeline_nodes.specs.Looks.{StandsApart, GrouperIsLookedAt, ProcessorIsLookedAt, MergeIsLookedAt}
 use Rattle.pipeline_nodes.specs.Turns.{HasTurned}
 use Rattle.pipeline_nodes.proofs.Looked.{parser_unseen, grouper_left, processor_left, merge_unseen, grouper_unseen, processor_unseen}
 use Rattle.pipeline_nodes.proofs.Turned.{ParserAnswers, GrouperAnswers, ProcessorAnswers, MergeAnswers, parser_has_turned, grouper_has_turned, processor_has_turned, merge_has_turned}
 
 -- ---- the ends of one link, whose receiver has had a turn
 
-on_rings : (number : ℕ) (tx : TxSeen) (rx rx' : RxSeen) → AreEnds number tx rx → RxGoes rx rx' → AreOnRings number tx rx'
+on_rings : (number : ℕ) (tx : TxSeen) (rx rx' : RxSeen) → AreOnRings number tx rx → RxGoes rx rx' → AreOnRings number tx rx'
 on_rings number tx rx rx' ends goes = record {
   one = (goes.names.0 ∙ ends.one.0, goes.names.1 ∙ ends.one.1);
   data_places = ends.data_places;
@@ -46,16 +46,16 @@ alike : (job : Declared) (credits : ℕ) (ps ps' : List ParserSeen) (gs gs' : Li
     → IsAlike (net_of job credits ps gs qs m) (net_of job credits ps' gs' qs' m')
 alike job credits ps ps' gs gs' qs qs' m m' a b c = record { same = (refl, same_counts (length ps) (length ps') (length gs) (length gs') (length qs) (length qs') a b c, refl); counts = (a, b, c) }
 
-module _ (job : Declared) (credits : ℕ) (ps : List ParserSeen) (gs : List GrouperSeen) (qs : List ProcessorSeen) (m : MergeSeen) (now : NetStands (net_of job credits ps gs qs m)) where
+module _ (job : Declared) (credits : ℕ) (ps : List ParserSeen) (gs : List GrouperSeen) (qs : List ProcessorSeen) (m : MergeSeen) (now : StandsApart (net_of job credits ps gs qs m)) where
   -- ---- a parser
 
   module _ (p : ℕ) (hp : p < length ps) (old turned : ParserSeen) (is : slice_get ps p ≡ Some old) where
-    pub parser_turned : (result : Result Turn NodeFault) → ParserGoes old turned → ParserStands turned → ParserAnswers old turned result
+    pub parser_turned : NetStands (net_of job credits ps gs qs m) → (result : Result Turn NodeFault) → ParserGoes old turned → ParserStands turned → ParserAnswers old turned result
         → HasTurned p (net_of job credits ps gs qs m) (net_of job credits (set ps p turned) gs qs m) result
-    parser_turned result goes stands says =
+    parser_turned whole result goes stands says =
         let was : get_or ps p (no_parser job) ≡ old = get_or_from_slice_get ps p old (no_parser job) is in
         let here : get_or (set ps p turned) p (no_parser job) ≡ turned = get_or-set_same ps p turned (no_parser job) hp in
-        parser_has_turned (net_of job credits ps gs qs m) (net_of job credits (set ps p turned) gs qs m) result now p hp
+        parser_has_turned (net_of job credits ps gs qs m) (net_of job credits (set ps p turned) gs qs m) result whole p hp
         (record {
           alike = alike job credits ps (set ps p turned) gs gs qs qs m m (length-set ps p turned) refl refl;
           goes = subst (λ (s : ParserSeen). ParserGoes s (get_or (set ps p turned) p (no_parser job))) (sym was) (subst (λ (s : ParserSeen). ParserGoes old s) (sym here) goes);
@@ -113,10 +113,10 @@ module _ (job : Declared) (credits : ℕ) (ps : List ParserSeen) (gs : List Grou
           subst (λ (n : ℕ). AreLooked n (tx_at (get_or ps' p (no_parser job)).outs.links g) (rx_at (get_or (set gs g seen) g (no_grouper job)).ins p)) grouper_credits
           (subst (λ (s : GrouperSeen). AreLooked turned.credits (tx_at (get_or ps' p (no_parser job)).outs.links g) (rx_at s.ins p)) (sym grouper_here) (looked p (no_parser job) hp))
 
-      pub grouper_turned : (result : Result Turn NodeFault) → GrouperAnswers old turned result
+      pub grouper_turned : NetStands (net_of job credits ps gs qs m) → (result : Result Turn NodeFault) → GrouperAnswers old turned result
           → HasTurned (length ps + g) (net_of job credits ps gs qs m) (net_of job credits ps' (set gs g seen) qs m) result
-      grouper_turned result says =
-          grouper_has_turned (net_of job credits ps gs qs m) (net_of job credits ps' (set gs g seen) qs m) result now g hg
+      grouper_turned whole result says =
+          grouper_has_turned (net_of job credits ps gs qs m) (net_of job credits ps' (set gs g seen) qs m) result whole g hg
           (record {
             alike = alike job credits ps ps' gs (set gs g seen) qs qs m m long (length-set gs g seen) refl;
             turned = turned;
@@ -193,10 +193,10 @@ module _ (job : Declared) (credits : ℕ) (ps : List ParserSeen) (gs : List Grou
           subst (λ (n : ℕ). AreLooked n (tx_at (get_or gs' g (no_grouper job)).outs.links q) (rx_at (get_or (set qs q seen) q (no_processor job)).ins g)) processor_credits
           (subst (λ (s : ProcessorSeen). AreLooked turned.credits (tx_at (get_or gs' g (no_grouper job)).outs.links q) (rx_at s.ins g)) (sym processor_here) (looked g (no_grouper job) hg))
 
-      pub processor_turned : (result : Result Turn NodeFault) → ProcessorAnswers old turned result
+      pub processor_turned : NetStands (net_of job credits ps gs qs m) → (result : Result Turn NodeFault) → ProcessorAnswers old turned result
           → HasTurned (length ps + length gs + q) (net_of job credits ps gs qs m) (net_of job credits ps gs' (set qs q seen) m) result
-      processor_turned result says =
-          processor_has_turned (net_of job credits ps gs qs m) (net_of job credits ps gs' (set qs q seen) m) result now q hq
+      processor_turned whole result says =
+          processor_has_turned (net_of job credits ps gs qs m) (net_of job credits ps gs' (set qs q seen) m) result whole q hq
           (record {
             alike = alike job credits ps ps gs gs' qs (set qs q seen) m m refl long (length-set qs q seen);
             turned = turned;
@@ -281,10 +281,10 @@ module _ (job : Declared) (credits : ℕ) (ps : List ParserSeen) (gs : List Grou
       from_processor_looked q hq =
           subst (λ (n : ℕ). AreLooked n (tx_at (get_or qs' q (no_processor job)).outs.links 0) (rx_at seen.ins (length ps + q))) merge_credits (answers_looked q (no_processor job) hq)
 
-      pub merge_turned : (result : Result Turn NodeFault) → MergeAnswers m turned result
+      pub merge_turned : NetStands (net_of job credits ps gs qs m) → (result : Result Turn NodeFault) → MergeAnswers m turned result
           → HasTurned (length ps + length gs + length qs) (net_of job credits ps gs qs m) (net_of job credits ps' gs qs' seen) result
-      merge_turned result says =
-          merge_has_turned (net_of job credits ps gs qs m) (net_of job credits ps' gs qs' seen) result now
+      merge_turned whole result says =
+          merge_has_turned (net_of job credits ps gs qs m) (net_of job credits ps' gs qs' seen) result whole
           (record {
             alike = alike job credits ps ps' gs gs qs qs' m seen long.0 refl long.1;
             turned = turned;

@@ -6,11 +6,11 @@ use Rattle.net_law.specs.Parsers.{ParserSeen}
 use Rattle.net_law.specs.Groupers.{GrouperSeen}
 use Rattle.net_law.specs.Processors.{ProcessorSeen}
 use Rattle.net_law.specs.Ends.{tx_at, rx_at}
-use Rattle.net_law.specs.Nets.{Net, NetStands, EachPair, parser_at, grouper_at, processor_at}
+use Rattle.net_law.specs.Nets.{Net, EachPair, parser_at, grouper_at, processor_at}
 use Rattle.net_law.specs.Steps.{AreLooked}
 use Rattle.net_law.proofs.Turned.{at_or_other}
 use Rattle.run_rounds.specs.Looked.{NodesLooked}
-use Rattle.pipeline_nodes.specs.Looks.{GrouperIsLookedAt, ProcessorIsLookedAt, MergeIsLookedAt, GroupersAreLookedAt, ProcessorsAreLookedAt}
+use Rattle.pipeline_nodes.specs.Looks.{StandsApart, GrouperIsLookedAt, ProcessorIsLookedAt, MergeIsLookedAt, GroupersAreLookedAt, ProcessorsAreLookedAt}
 use Rattle.pipeline_nodes.proofs.Looked.{nodes_unseen, nodes_on}
 
 -- a link whose ends are as they were
@@ -20,7 +20,7 @@ looked_as n n' tx tx' rx rx' number sender receiver looked =
 
 -- ---- the groupers
 
-pub no_groupers : (net : Net) → NetStands net → GroupersAreLookedAt 0 net net
+pub no_groupers : (net : Net) → StandsApart net → GroupersAreLookedAt 0 net net
 no_groupers net now = record { looks = nodes_unseen net now; looked = λ p g hp less. absurd (omega (arith, less)) }
 
 pub one_grouper : (g : ℕ) (start now after : Net) → GroupersAreLookedAt g start now → GrouperIsLookedAt g now after → GroupersAreLookedAt (g + 1) start after
@@ -41,7 +41,7 @@ one_grouper g start now after far one = record {
 
 -- ---- the query processors
 
-pub no_processors : (net : Net) → NetStands net → ProcessorsAreLookedAt 0 net net
+pub no_processors : (net : Net) → StandsApart net → ProcessorsAreLookedAt 0 net net
 no_processors net now = record { looks = nodes_unseen net now; looked = λ g q hg less. absurd (omega (arith, less)); ins_stay = λ g hg. refl; parsers = λ p. refl }
 
 pub one_processor : (q : ℕ) (start now after : Net) → ProcessorsAreLookedAt q start now → ProcessorIsLookedAt q now after → ProcessorsAreLookedAt (q + 1) start after

@@ -1,10 +1,26 @@
 -- A look at all links into one node.
-use Rattle.std.specs.Prelude.{ℕ, ◌≡◌, ◌≢◌, ◌<◌, ◌+◌}
+use Rattle.std.specs.Prelude.{ℕ, ◌≡◌, ◌≢◌, ◌<◌, ◌+◌, length}
+use Rattle.run_law.specs.Shapes.{IsShape}
 use Rattle.net_law.specs.Ends.{tx_at, rx_at}
-use Rattle.net_law.specs.Nets.{Net, parser_at, grouper_at, processor_at}
+use Rattle.net_law.specs.Nets.{Net, EachPair, IsParserOf, IsGrouperOf, IsProcessorOf, IsMergeOf, parser_at, grouper_at, processor_at}
 use Rattle.net_law.specs.Steps.{AreLooked}
-use Rattle.pipeline_looks.specs.Links.{OthersStay}
+use Rattle.pipeline_looks.specs.Links.{AreOnRings, OthersStay}
 use Rattle.run_rounds.specs.Looked.{NodesLooked}
+
+-- ---- before a look
+
+-- The nodes are those of the shape, each keeps its promise, and the two ends of each link are of one ring. This is all that is
+-- known where nodes took turns side by side: whether what was taken on a link is a front of what was sent, the look tells.
+pub record StandsApart (net : Net) : Type 0 where
+  pub shape_is : IsShape net.shape
+  pub parser_count : length net.parsers ≡ net.shape.parsers
+  pub grouper_count : length net.groupers ≡ net.shape.groupers
+  pub processor_count : length net.processors ≡ net.shape.processors
+  pub parsers : (p : ℕ) → p < net.shape.parsers → IsParserOf net p (parser_at net p)
+  pub groupers : (g : ℕ) → g < net.shape.groupers → IsGrouperOf net g (grouper_at net g)
+  pub processors : (q : ℕ) → q < net.shape.processors → IsProcessorOf net (processor_at net q)
+  pub merge : IsMergeOf net net.merge
+  pub links : EachPair (AreOnRings net.credits) net
 
 -- ---- the links of one node
 

@@ -1,10 +1,10 @@
 //! A look at all links.
 ghost use Rattle.std.specs.Prelude.{◌≡◌, ◌<◌, length};
-ghost use Rattle.net_law.specs.Nets.{NetStands, EachPair};
+ghost use Rattle.net_law.specs.Nets.{EachPair};
 ghost use Rattle.net_law.specs.Steps.{AreLooked};
 ghost use Rattle.pipeline_nodes.specs.Nodes.{NodesStand};
 ghost use Rattle.run_rounds.specs.Looked.{NodesLooked};
-ghost use Rattle.pipeline_nodes.specs.Looks.{GrouperIsLookedAt, ProcessorIsLookedAt, MergeIsLookedAt, GroupersAreLookedAt, ProcessorsAreLookedAt};
+ghost use Rattle.pipeline_nodes.specs.Looks.{StandsApart, GrouperIsLookedAt, ProcessorIsLookedAt, MergeIsLookedAt, GroupersAreLookedAt, ProcessorsAreLookedAt};
 
 use crate::Nodes;
 use ds_base::{Sink, Source};
@@ -22,10 +22,11 @@ impl<'a, S: Source, O: Sink> Nodes<'a, S, O> {
         self.look_at_all();
     }
 
-    /// The same, whatever faults the nodes have met.
-    pub(crate) fn look_at_all(&mut self)
-        requires stands { NetStands self.old.net }
-        ensures stands { NetStands self.new.net }
+    /// The same, whatever faults the nodes have met, and whatever turns they took side by side. What was taken on each link is
+    /// then again a front of what was sent.
+    pub fn look_at_all(&mut self)
+        requires stands { StandsApart self.old.net }
+        ensures stands { StandsApart self.new.net }
         ensures lent { self.new.lent ≡ self.old.lent }
         ensures looks { NodesLooked self.old.net self.new.net }
         ensures looked { EachPair (AreLooked self.new.net.credits) self.new.net }
@@ -36,9 +37,9 @@ impl<'a, S: Source, O: Sink> Nodes<'a, S, O> {
     }
 
     fn look_at_groupers(&mut self)
-        requires { NetStands self.old.net }
+        requires { StandsApart self.old.net }
         ensures looks { GroupersAreLookedAt self.old.net.shape.groupers self.old.net self.new.net }
-        ensures stands { NetStands self.new.net }
+        ensures stands { StandsApart self.new.net }
         ensures lent { self.new.lent ≡ self.old.lent }
     {
         let count = self.grouper_count();
@@ -48,9 +49,9 @@ impl<'a, S: Source, O: Sink> Nodes<'a, S, O> {
     }
 
     fn look_at_processors(&mut self)
-        requires { NetStands self.old.net }
+        requires { StandsApart self.old.net }
         ensures looks { ProcessorsAreLookedAt self.old.net.shape.processors self.old.net self.new.net }
-        ensures stands { NetStands self.new.net }
+        ensures stands { StandsApart self.new.net }
         ensures lent { self.new.lent ≡ self.old.lent }
     {
         let count = self.processor_count();
@@ -61,10 +62,10 @@ impl<'a, S: Source, O: Sink> Nodes<'a, S, O> {
 
     // The links into one grouper.
     fn look_at_grouper(&mut self, g: u32)
-        requires stands { NetStands self.old.net }
+        requires stands { StandsApart self.old.net }
         requires there { g < length self.old.net.groupers }
         ensures looks { GrouperIsLookedAt g self.old.net self.new.net }
-        ensures stands { NetStands self.new.net }
+        ensures stands { StandsApart self.new.net }
         ensures lent { self.new.lent ≡ self.old.lent }
     {
         look_at_grouper(self.groupers.get_mut(g as u64), g, &mut self.parsers);
@@ -72,10 +73,10 @@ impl<'a, S: Source, O: Sink> Nodes<'a, S, O> {
 
     // The links into one processor.
     fn look_at_processor(&mut self, q: u32)
-        requires stands { NetStands self.old.net }
+        requires stands { StandsApart self.old.net }
         requires there { q < length self.old.net.processors }
         ensures looks { ProcessorIsLookedAt q self.old.net self.new.net }
-        ensures stands { NetStands self.new.net }
+        ensures stands { StandsApart self.new.net }
         ensures lent { self.new.lent ≡ self.old.lent }
     {
         look_at_processor(self.processors.get_mut(q as u64), q, &mut self.groupers);
@@ -83,9 +84,9 @@ impl<'a, S: Source, O: Sink> Nodes<'a, S, O> {
 
     // The links into the merge.
     fn look_at_merge(&mut self)
-        requires { NetStands self.old.net }
+        requires { StandsApart self.old.net }
         ensures looks { MergeIsLookedAt self.old.net self.new.net }
-        ensures stands { NetStands self.new.net }
+        ensures stands { StandsApart self.new.net }
         ensures lent { self.new.lent ≡ self.old.lent }
     {
         let groupers = self.grouper_count();

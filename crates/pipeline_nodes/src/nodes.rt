@@ -4,6 +4,7 @@ ghost use Rattle.summary_spec.specs.Job.{declared_of};
 ghost use Rattle.net_law.specs.Nets.{NetStands};
 ghost use Rattle.run_rounds.specs.Faults.{node_count};
 ghost use Rattle.pipeline_nodes.specs.Nodes.{net_of};
+ghost use Rattle.pipeline_nodes.specs.Looks.{StandsApart};
 ghost use Rattle.pipeline_nodes.specs.Places.{IsPlaceOf};
 
 use crate::place::NodePlace;
@@ -66,6 +67,7 @@ impl<'a, S: Source, O: Sink> Nodes<'a, S, O> {
     }
 
     /// How many nodes there are, at most 49.
+    #[tactic(auto, using(crate::proofs::Looked::apart))]
     pub fn node_count(&self) -> u32
         requires stands { NetStands self.now.net }
         ensures count { result ≡ node_count self.now.net }
@@ -74,6 +76,7 @@ impl<'a, S: Source, O: Sink> Nodes<'a, S, O> {
     }
 
     /// Which node a number is.
+    #[tactic(auto, using(crate::proofs::Looked::apart))]
     pub(crate) fn place(&self, node: u32) -> NodePlace
         requires stands { NetStands self.now.net }
         requires there { node < node_count self.now.net }
@@ -96,7 +99,7 @@ impl<'a, S: Source, O: Sink> Nodes<'a, S, O> {
     }
 
     fn parser_count(&self) -> u32
-        requires { NetStands self.now.net }
+        requires { StandsApart self.now.net }
         ensures is { result ≡ self.now.net.shape.parsers }
         ensures few { result < 17 }
     {
@@ -104,7 +107,7 @@ impl<'a, S: Source, O: Sink> Nodes<'a, S, O> {
     }
 
     pub(crate) fn grouper_count(&self) -> u32
-        requires { NetStands self.now.net }
+        requires { StandsApart self.now.net }
         ensures is { result ≡ self.now.net.shape.groupers }
         ensures few { result < 17 }
     {
@@ -112,7 +115,7 @@ impl<'a, S: Source, O: Sink> Nodes<'a, S, O> {
     }
 
     pub(crate) fn processor_count(&self) -> u32
-        requires { NetStands self.now.net }
+        requires { StandsApart self.now.net }
         ensures is { result ≡ self.now.net.shape.processors }
         ensures few { result < 17 }
     {

@@ -5,21 +5,22 @@ use Rattle.net_law.specs.Nets.{NetStands}
 use Rattle.pipeline_nodes.specs.Nodes.{NodesSeen, net_of}
 use Rattle.pipeline_nodes.specs.Turns.{HasTurned}
 use Rattle.pipeline_nodes.proofs.Listed.{grouper_ins, grouper_outs, grouper_ends, grouper_turned}
+use Rattle.pipeline_nodes.proofs.Looked.{apart}
 use Rattle.pipeline_nodes.proofs.nodes.Nodes.turn_grouper.Goals as goal
 
 pub look_at_grouper-requires-clause-ins : goal.look_at_grouper-requires-clause-ins
 look_at_grouper-requires-clause-ins g c =
-    grouper_ins (declared_of c.self.inside.job.now) c.self.inside.credits c.self.inside.parsers.items c.self.inside.groupers.items c.self.inside.processors.items c.self.inside.merge.merge (subst (λ (s : NodesSeen). NetStands s.net) (sym c.self.view_is) c.requires.stands)
+    grouper_ins (declared_of c.self.inside.job.now) c.self.inside.credits c.self.inside.parsers.items c.self.inside.groupers.items c.self.inside.processors.items c.self.inside.merge.merge (apart (net_of (declared_of c.self.inside.job.now) c.self.inside.credits c.self.inside.parsers.items c.self.inside.groupers.items c.self.inside.processors.items c.self.inside.merge.merge) (subst (λ (s : NodesSeen). NetStands s.net) (sym c.self.view_is) c.requires.stands))
     c.args.g (subst (λ (s : NodesSeen). c.args.g < length s.net.groupers) (sym c.self.view_is) c.requires.there) c.get_mut-node.result.now c.turn-turned.new.self c.get_mut-node.ensures.value c.turn-turned.ensures.goes
 
 pub look_at_grouper-requires-clause-outs : goal.look_at_grouper-requires-clause-outs
 look_at_grouper-requires-clause-outs g c =
-    grouper_outs (declared_of c.self.inside.job.now) c.self.inside.credits c.self.inside.parsers.items c.self.inside.groupers.items c.self.inside.processors.items c.self.inside.merge.merge (subst (λ (s : NodesSeen). NetStands s.net) (sym c.self.view_is) c.requires.stands)
+    grouper_outs (declared_of c.self.inside.job.now) c.self.inside.credits c.self.inside.parsers.items c.self.inside.groupers.items c.self.inside.processors.items c.self.inside.merge.merge (apart (net_of (declared_of c.self.inside.job.now) c.self.inside.credits c.self.inside.parsers.items c.self.inside.groupers.items c.self.inside.processors.items c.self.inside.merge.merge) (subst (λ (s : NodesSeen). NetStands s.net) (sym c.self.view_is) c.requires.stands))
     c.args.g (subst (λ (s : NodesSeen). c.args.g < length s.net.groupers) (sym c.self.view_is) c.requires.there) c.get_mut-node.result.now c.turn-turned.new.self c.get_mut-node.ensures.value c.turn-turned.ensures.goes
 
 pub look_at_grouper-requires-clause-ends : goal.look_at_grouper-requires-clause-ends
 look_at_grouper-requires-clause-ends g c =
-    grouper_ends (declared_of c.self.inside.job.now) c.self.inside.credits c.self.inside.parsers.items c.self.inside.groupers.items c.self.inside.processors.items c.self.inside.merge.merge (subst (λ (s : NodesSeen). NetStands s.net) (sym c.self.view_is) c.requires.stands)
+    grouper_ends (declared_of c.self.inside.job.now) c.self.inside.credits c.self.inside.parsers.items c.self.inside.groupers.items c.self.inside.processors.items c.self.inside.merge.merge (apart (net_of (declared_of c.self.inside.job.now) c.self.inside.credits c.self.inside.parsers.items c.self.inside.groupers.items c.self.inside.processors.items c.self.inside.merge.merge) (subst (λ (s : NodesSeen). NetStands s.net) (sym c.self.view_is) c.requires.stands))
     c.args.g (subst (λ (s : NodesSeen). c.args.g < length s.net.groupers) (sym c.self.view_is) c.requires.there) c.get_mut-node.result.now c.turn-turned.new.self c.get_mut-node.ensures.value c.turn-turned.ensures.goes
 
 pub returns-clause-turned : goal.returns-clause-turned
@@ -27,6 +28,6 @@ returns-clause-turned g c =
     let e = c.turn-turned.ensures in
     let l = c.look_at_grouper in
     subst (λ (s : NodesSeen). HasTurned (s.net.shape.parsers + c.args.g) s.net (net_of (declared_of c.self.inside.job.now) c.self.inside.credits l.new.parsers.items (set c.self.inside.groupers.items c.args.g l.new.grouper) c.self.inside.processors.items c.self.inside.merge.merge) c.turn-turned.result) c.self.view_is
-    (grouper_turned (declared_of c.self.inside.job.now) c.self.inside.credits c.self.inside.parsers.items c.self.inside.groupers.items c.self.inside.processors.items c.self.inside.merge.merge (subst (λ (s : NodesSeen). NetStands s.net) (sym c.self.view_is) c.requires.stands)
+    (grouper_turned (declared_of c.self.inside.job.now) c.self.inside.credits c.self.inside.parsers.items c.self.inside.groupers.items c.self.inside.processors.items c.self.inside.merge.merge (apart (net_of (declared_of c.self.inside.job.now) c.self.inside.credits c.self.inside.parsers.items c.self.inside.groupers.items c.self.inside.processors.items c.self.inside.merge.merge) (subst (λ (s : NodesSeen). NetStands s.net) (sym c.self.view_is) c.requires.stands))
     c.args.g (subst (λ (s : NodesSeen). c.args.g < length s.net.groupers) (sym c.self.view_is) c.requires.there) c.get_mut-node.result.now c.turn-turned.new.self c.get_mut-node.ensures.value c.turn-turned.ensures.goes
-    l.new.parsers.items l.new.grouper l.ensures.looks l.ensures.as_many l.ensures.senders l.ensures.looked c.turn-turned.result (record { says = e.says; told = e.tells; stored = e.fault; again = e.again; causes = e.causes }))
+    l.new.parsers.items l.new.grouper l.ensures.looks l.ensures.as_many l.ensures.senders l.ensures.looked (subst (λ (s : NodesSeen). NetStands s.net) (sym c.self.view_is) c.requires.stands) c.turn-turned.result (record { says = e.says; told = e.tells; stored = e.fault; again = e.again; causes = e.causes }))

@@ -1,0 +1,12 @@
+//! Bundles of nodes for threads: the nodes of one worker, which takes rounds of them. What a bundle promises speaks of its own
+//! nodes alone: each goes on by its turns, and keeps its promise. What the two ends of a link know of each other comes
+//! back by a look, once both are in one thread again.
+#![tactic(auto)]
+
+mod bundle;
+mod seat;
+mod turning;
+
+pub use bundle::{Bundle, IDLE_ROUNDS, PHASE_ROUNDS};
+pub use seat::{Seat, turn_each, turn_last};
+pub use turning::{NoNode, TakesTurn};
