@@ -67,11 +67,12 @@ impl<'a, S: Source, O: Sink> Pipeline<'a, S, O> {
         self.nodes.node_count()
     }
 
-    /// The first fault that a turn gave, or None where no node has one.
+    /// The first fault that a turn gave, or None where no node has one. No node has a fault of a link.
     pub fn fault(&self) -> Option<NodeAt>
         ensures is { result ≡ self.now.fault }
         ensures none { IsNone result ↔ NoneHasFault self.now.net }
         ensures some { IfSome result (λ at. fault_at self.now.net at.node ≡ Some at.fault) }
+        ensures no_link { (node : ℕ) (bad : FaultSeen) → fault_at self.now.net node ≡ Some bad → IsNoLink bad }
     {
         self.first
     }

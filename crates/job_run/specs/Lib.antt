@@ -1,0 +1,4 @@
+pub mod Sources
+pub mod Rows
+pub mod Ends
+pub mod Closing
