@@ -11,10 +11,12 @@ ghost use Rattle.central_report.specs.Report.{report_over};
 
 use crate::closing::closed;
 use crate::written::Written;
-use ds_base::{CountsList, OutOfMemory, Summary, SummaryList, Text};
+use ds_base::{CountsList, OutOfMemory, Summary, Text};
+use lean_order::stamp_order;
+use packed_summaries::LeanList;
 use std::alloc::Global;
 use summary_spec::Job;
-use window_grouper::{OpenGroups, stamp_order};
+use window_grouper::OpenGroups;
 
 /// The whole report of a job over the accepted summaries of its captures, in any order, and the counts
 /// of each capture in the order of their numbers. The only refusal is want of memory.
@@ -25,7 +27,7 @@ use window_grouper::{OpenGroups, stamp_order};
 pub fn central_text(
     alloc: Global,
     job: &Job,
-    list: &SummaryList,
+    list: &LeanList,
     counts: &CountsList,
 ) -> Result<Text, OutOfMemory>
     requires list { AreReportable (declared_of job.now) list.now.items }
@@ -41,7 +43,7 @@ pub fn central_text(
 fn answer_all(
     alloc: Global,
     job: &Job,
-    list: &SummaryList,
+    list: &LeanList,
     places: &[u64],
 ) -> Result<Written, OutOfMemory>
     requires list { AreInTurn (declared_of job.now) (by_stamp list.now.items) }
@@ -52,7 +54,8 @@ fn answer_all(
     let mut groups = OpenGroups::new(alloc, job.window);
     let mut written = Written::new(alloc);
     for place in places {
-        take_up(job, list.get(*place), &mut groups, &mut written)?;
+        let s = list.get(*place);
+        take_up(job, &s, &mut groups, &mut written)?;
     }
     answer_rest(job, &mut groups, &mut written)?;
     Ok(written)

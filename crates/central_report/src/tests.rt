@@ -3,7 +3,8 @@ ghost use Rattle.std.specs.Prelude.{◌≡◌, ◌<◌, length, All, IfOk};
 ghost use Rattle.window_grouper.specs.Sorted.{StampsDiffer};
 
 use crate::{accepted_reportable, central_text, rows_are_profile};
-use ds_base::{Counts, CountsList, Nums, Stamp, Summary, SummaryList, Text};
+use ds_base::{Counts, CountsList, Nums, Stamp, Summary, Text};
+use packed_summaries::{LeanList, Packing};
 use std::alloc::Global;
 use std::process::Abort;
 use std::test::Fail;
@@ -46,19 +47,28 @@ fn seen(capture: u32, time: u64, number: u64, id: u128, ttl: u128) -> Summary
 
 // The accepted summaries, capture by capture. Packet 7 came back to the first capture; packet 9 was
 // seen after its beginning and before its end.
-fn summaries(alloc: Global) -> Result<SummaryList, Fail>
+fn summaries(alloc: Global) -> Result<LeanList, Fail>
     ensures differ { IfOk result (λ list. StampsDiffer list.items) }
     ensures known { IfOk result (λ list. All (λ s. (s.at.capture < 3) × (length s.vals ≡ 2)) list.items) }
     ensures few { IfOk result (λ list. length list.items ≡ 6) }
 {
-    let mut list = SummaryList::new(alloc);
-    list.push(seen(0, 1_000_000_000, 2, 7, 64))?;
-    list.push(seen(0, 1_000_030_000, 3, 7, 62))?;
-    list.push(seen(1, 1_000_010_000, 0, 7, 63))?;
-    list.push(seen(1, 2_000_000_000, 4, 8, 9))?;
-    list.push(seen(2, 1_000_000_000, 1, 9, 30))?;
-    list.push(seen(2, 2_000_005_000, 2, 8, 8))?;
+    let mut list = LeanList::new(alloc, packing(alloc)?);
+    list.push(&seen(0, 1_000_000_000, 2, 7, 64))?;
+    list.push(&seen(0, 1_000_030_000, 3, 7, 62))?;
+    list.push(&seen(1, 1_000_010_000, 0, 7, 63))?;
+    list.push(&seen(1, 2_000_000_000, 4, 8, 9))?;
+    list.push(&seen(2, 1_000_000_000, 1, 9, 30))?;
+    list.push(&seen(2, 2_000_005_000, 2, 8, 8))?;
     Ok(list)
+}
+
+// Of the job's two variables the first is the key, and neither is wide.
+fn packing(alloc: Global) -> Result<Packing, Fail> {
+    let mut packing = Packing::new(alloc);
+    packing.add_variable(false)?;
+    packing.add_variable(false)?;
+    packing.add_to_key(0)?;
+    Ok(packing)
 }
 
 // How the records of a capture fared.

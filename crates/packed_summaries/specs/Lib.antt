@@ -1,3 +1,4 @@
 pub mod Packing
 pub mod Rows
 pub mod Packed
+pub mod Lean

@@ -4,9 +4,11 @@
 #![tactic(auto)]
 
 mod fits;
+mod lean_list;
 mod packed_list;
 mod packing;
 mod row;
 
+pub use lean_list::LeanList;
 pub use packed_list::PackedList;
 pub use packing::Packing;

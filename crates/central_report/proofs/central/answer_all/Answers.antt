@@ -11,8 +11,8 @@ loop-place-init c =
     let job = declared_of c.args.job.now in
     under_none names job c.args.list.now.items c.args.places.now c.new-groups.result c.new-written.result c.requires.places c.new-groups.ensures (c.new-written.ensures names job)
 
-pub get-requires : goal.get-requires
-get-requires c =
+pub get-s-requires : goal.get-s-requires
+get-s-requires c =
     let names = c.args.job.now.names.captures.items in
     let job = declared_of c.args.job.now in
     let i = c.loop-place.place-index in
@@ -24,16 +24,16 @@ take_up-requires c =
     let names = c.args.job.now.names.captures.items in
     let job = declared_of c.args.job.now in
     let i = c.loop-place.place-index in
-    under_next names job c.args.list.now.items _ (drop (i + 1) c.args.places.now) (drop i c.args.places.now) c.loop-place.groups c.loop-place.written c.get.result.now
-    c.requires.list c.loop-place.invariant (drop_more c.args.places.now i 0 (omega arith)) c.get.ensures
+    under_next names job c.args.list.now.items _ (drop (i + 1) c.args.places.now) (drop i c.args.places.now) c.loop-place.groups c.loop-place.written c.get-s.result
+    c.requires.list c.loop-place.invariant (drop_more c.args.places.now i 0 (omega arith)) c.get-s.ensures
 
 pub loop-place-preserved : goal.loop-place-preserved
 loop-place-preserved c =
     let names = c.args.job.now.names.captures.items in
     let job = declared_of c.args.job.now in
     let i = c.loop-place.place-index in
-    under_more names job c.args.list.now.items _ (drop (i + 1) c.args.places.now) (drop i c.args.places.now) c.loop-place.groups _ c.loop-place.written _ c.get.result.now
-    c.requires.list c.loop-place.invariant (drop_more c.args.places.now i 0 (omega arith)) c.get.ensures c.in_ok-take_up.ensures
+    under_more names job c.args.list.now.items _ (drop (i + 1) c.args.places.now) (drop i c.args.places.now) c.loop-place.groups _ c.loop-place.written _ c.get-s.result
+    c.requires.list c.loop-place.invariant (drop_more c.args.places.now i 0 (omega arith)) c.get-s.ensures c.in_ok-take_up.ensures
 
 pub answer_rest-requires : goal.answer_rest-requires
 answer_rest-requires c =
