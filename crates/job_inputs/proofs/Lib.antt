@@ -4,3 +4,4 @@ pub mod Opened
 pub mod Records
 pub mod Collecting
 pub mod Filling
+pub mod Reporting

@@ -7,7 +7,7 @@ use Rattle.input_files.specs.Reading.{Reading, HasRead, ReadsMore, ReadsEnd}
 use Rattle.pcap_reader.specs.Captured.{Captured}
 use Rattle.pcap_reader.specs.Good.{good}
 use Rattle.pcap_reader.specs.Lent.{GivesNone, GivesBad}
-use Rattle.pcap_reader.specs.Reader.{Reader, StandsFor}
+use Rattle.pcap_reader.specs.Reader.{Reader}
 
 -- a source that went on twice
 pub stays_twice : (first mid last : SourceSeen) → SourceStays first mid → SourceStays mid last → SourceStays first last

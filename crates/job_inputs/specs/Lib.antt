@@ -3,3 +3,4 @@ pub mod Jobs
 pub mod JobFile
 pub mod Gathering
 pub mod Captures
+pub mod Reports

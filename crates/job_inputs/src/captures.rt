@@ -10,8 +10,10 @@ ghost use Rattle.job_inputs.specs.Gathering.{GathersAll, GathersNext, StopsRead}
 
 use crate::fault::CapturesFault;
 use crate::gather::gather_capture;
-use ds_base::{Counts, CountsList, Folder, SummaryList};
+use crate::packing::packing_of;
+use ds_base::{Counts, CountsList, Folder};
 use input_files::{CaptureFault, open_file};
+use packed_summaries::LeanList;
 use std::alloc::Global;
 use std::collections::VecDeque;
 use summary_spec::Job;
@@ -20,7 +22,7 @@ use summary_spec::Job;
 #[derive(Drop)]
 pub struct Gathered {
     /// The summaries of the accepted records, of one capture after another, each in the order of its records.
-    pub accepted: SummaryList,
+    pub accepted: LeanList,
     /// How the records of each capture fared.
     pub counts: CountsList,
 }
@@ -40,15 +42,18 @@ pub fn gather_captures<F: Folder>(
         (λ gathered. GathersCaptures (declared_of job.now) (declared_of job.now).files (F.seen folder.old) (F.seen folder.new) gathered.accepted.items gathered.counts.items)
         (StopsCaptures (declared_of job.now).files (F.seen folder.old) (F.seen folder.new)) }
 {
+    let Ok(packing) = packing_of(alloc, job) else {
+        return Err(CapturesFault::OutOfMemory);
+    };
     let sources = open_captures(alloc, job, folder)?;
-    let mut accepted = SummaryList::new(alloc);
+    let mut accepted = LeanList::new(alloc, packing);
     let mut counts = CountsList::new(alloc);
     read_captures(alloc, job, sources, folder, &mut accepted, &mut counts)?;
     Ok(Gathered { accepted, counts })
 }
 
 /// Opens the files of all captures, in order. Where one is not opened, those before it are given back.
-fn open_captures<F: Folder>(
+pub fn open_captures<F: Folder>(
     alloc: Global,
     job: &Job,
     folder: &mut F,
@@ -83,7 +88,7 @@ fn read_captures<F: Folder>(
     job: &Job,
     mut sources: VecDeque<F::Src>,
     folder: &mut F,
-    accepted: &mut SummaryList,
+    accepted: &mut LeanList,
     counts: &mut CountsList,
 ) -> Result<(), CapturesFault>
     requires opened { AreOpened (F.seen folder.old) (declared_of job.now).files (map F.Src.seen sources.items) }
@@ -116,7 +121,7 @@ fn read_next<F: Folder>(
     capture: u32,
     source: F::Src,
     folder: &mut F,
-    accepted: &mut SummaryList,
+    accepted: &mut LeanList,
     counts: &mut CountsList,
 ) -> Result<(), CaptureFault>
     requires fresh { IsFresh (F.Src.seen source) }
@@ -140,7 +145,7 @@ fn read_and_give_back<F: Folder>(
     capture: u32,
     mut source: F::Src,
     folder: &mut F,
-    accepted: &mut SummaryList,
+    accepted: &mut LeanList,
 ) -> Result<Counts, CaptureFault>
     requires fresh { IsFresh (F.Src.seen source) }
     requires capture { capture < length job.now.names.captures.items }
@@ -155,7 +160,7 @@ fn read_and_give_back<F: Folder>(
 }
 
 /// Gives back sources of which nothing was read.
-fn give_back_all<F: Folder>(folder: &mut F, mut sources: VecDeque<F::Src>)
+pub fn give_back_all<F: Folder>(folder: &mut F, mut sources: VecDeque<F::Src>)
     requires fresh { AllByRecursion IsFresh (map F.Src.seen sources.items) }
     ensures stays { FolderStays (F.seen folder.old) (F.seen folder.new) }
     ensures quiet { (F.seen folder.new).faults ≡ (F.seen folder.old).faults }

@@ -77,3 +77,14 @@ impl CapturesFault {
         }
     }
 }
+
+/// Why the report of a job was not written.
+#[derive(Clone, Copy, Debug, PartialEq, Eq, Error)]
+pub enum ReportFault {
+    /// The captures were not all read, or there was no memory for the report.
+    #[error("{0}")]
+    Captures(CapturesFault),
+    /// The output could not be written.
+    #[error("the report could not be written")]
+    Unwritten,
+}

@@ -11,9 +11,10 @@ ghost use Rattle.pcap_reader.specs.Lent.{captured, IsLawful};
 ghost use Rattle.summary_spec.specs.Job.{declared_of};
 ghost use Rattle.job_inputs.specs.Gathering.{Collects, IsReadWhole, StopsRead, GathersAll};
 
-use ds_base::{Counts, OutOfMemory, Source, SummaryList};
+use ds_base::{Counts, OutOfMemory, Source};
 use input_files::{CaptureFault, CaptureReading, Piece};
 use key_select::{Tally, wanted_of};
+use packed_summaries::LeanList;
 use pcap_reader::RecordRef;
 use std::alloc::Global;
 use summary_spec::Job;
@@ -28,7 +29,7 @@ pub(crate) fn gather_capture<S: Source>(
     job: &Job,
     capture: u32,
     source: &mut S,
-    accepted: &mut SummaryList,
+    accepted: &mut LeanList,
 ) -> Result<Counts, CaptureFault>
     requires fresh { IsFresh (S.seen source.old) }
     requires capture { capture < length job.now.names.captures.items }
@@ -57,7 +58,7 @@ fn gather_records<S: Source>(
     source: &mut S,
     reading: &mut CaptureReading,
     tally: &mut Tally,
-    accepted: &mut SummaryList,
+    accepted: &mut LeanList,
 ) -> Result<(), CaptureFault>
     requires unread { HasRead (wanted_of (declared_of job.now) (capture_of tally.old)) reading.old (S.seen source.old) [] [] }
     requires given { records_taken tally.old ≡ records_read reading.old }
@@ -95,7 +96,7 @@ fn take_up(
     job: &Job,
     r: &RecordRef<'_>,
     tally: &mut Tally,
-    accepted: &mut SummaryList,
+    accepted: &mut LeanList,
 ) -> Result<(), OutOfMemory>
     requires named { capture_of tally.old < length job.now.names.captures.items }
     requires lawful { IsLawful (captured r.now) }
@@ -109,7 +110,7 @@ fn take_up(
     let Some(summary) = tally.take_up(job, r) else {
         return Ok(());
     };
-    let Ok(()) = accepted.push(summary) else {
+    let Ok(()) = accepted.push(&summary) else {
         return Err(OutOfMemory);
     };
     Ok(())

@@ -7,7 +7,8 @@ mod captures;
 mod fault;
 mod gather;
 mod job_file;
+mod packing;
 
-pub use captures::{Gathered, gather_captures};
-pub use fault::{CapturesFault, JobFileFault};
+pub use captures::{Gathered, gather_captures, give_back_all, open_captures};
+pub use fault::{CapturesFault, JobFileFault, ReportFault};
 pub use job_file::{read_job, take_job};

@@ -1,7 +1,6 @@
-use Rattle.std.proofs.Common.{ℕ, List, Option, ◌≡◌, ◌∙◌, ◌++◌, sym, ap, subst}
-use Rattle.ds_base.specs.Outside.{SourceSeen}
+use Rattle.std.proofs.Common.{ℕ, List, Option, ◌∙◌, ◌++◌, sym, subst}
 use Rattle.input_files.specs.Reading.{Reading}
-use Rattle.key_select.specs.Wanted.{wanted_of, good_of}
+use Rattle.key_select.specs.Wanted.{wanted_of}
 use Rattle.key_select.specs.Tally.{capture_of}
 use Rattle.pcap_reader.specs.Captured.{Captured}
 use Rattle.pcap_reader.specs.Reader.{IsWaiting}
