@@ -3,7 +3,8 @@
 #
 # Times `dshark central` on eight captures of one network (make_network.c): PACKETS packets (default 1000000), each
 # captured at 2 to 4 points, bare, in VXLAN and in GRE in turn, so about three records a packet; it looks for loops and
-# takes the delays. Beside it stand passes that do less: one that only reads the files (cat), one that merges them by
+# takes the delays; and `dshark run` on the same job, with 1, 2 and 16 nodes of each kind and 16 and 1,024 credits a link.
+# Beside them stand passes that do less: one that only reads the files (cat), one that merges them by
 # time (mergecap), a count of their records (capinfos), and `tshark -T fields` with the last ip.id and ip.ttl of each.
 # Rows alternate, and the least of ROUNDS counts. tshark is slow: it reads captures of PACKETS_OF_TSHARK packets
 # (default 100000), and its row is scaled to the records. Peak memory is that of the largest process of a row.
@@ -35,6 +36,12 @@ cd "$room/all"
 captures=$(echo p?.pcap)
 bytes=$(cat p?.pcap | wc -c)
 row 'dshark central' "$program" "$program" central job.json
+for many in 1 2 16; do
+    for credits in 16 1024; do
+        row "dshark run $many/$credits" "$program" "$program" run job.json \
+            --parsers "$many" --groupers "$many" --processors "$many" --credits "$credits"
+    done
+done
 row 'cat (reads only)' cat cat "$captures"
 row 'mergecap' mergecap mergecap -w - "$captures"
 row 'capinfos -c' capinfos capinfos -c "$captures"

@@ -93,7 +93,7 @@ class Run:
 
 def check_filters(run, text, room):
     """Each expression in the right column of the table of filters is one of variables."""
-    section = text.split("## 11.")[1]
+    section = text.split("## 12.")[1]
     for left, right in re.findall(r"^\| (`.*?`) \| (.*) \|$", section, re.M):
         for words in re.findall(r"`([^`]*)`", right.replace("\\|", "|"))[:1]:
             if words == "none":

@@ -31,7 +31,8 @@ writes() { # BYTES
 
 capture=crates/dshark_cli/data/a
 ends 'a whole report' 0 '' "$room/report" count 'ipv4[0].id' 1000000 "$capture"
-cmp -s "$room/report" crates/dshark_cli/stdout || { failed=$((failed + 1)); echo 'FAILED: the report is not the stored one'; }
+printf '%s\n' 'G 1000000000 c 0 key=7 n=1 ok' 'C c records=1 unmatched=0 late=0 accepted=1 whole' 'E groups=1 summaries=1' |
+    cmp -s - "$room/report" || { failed=$((failed + 1)); echo 'FAILED: the report of one capture is another'; }
 ends 'no words' 1 'dshark: usage: word 0' "$room/report"
 writes 0
 ends 'a word that is no text' 1 'dshark: usage: word 0' "$room/report" $'\xff'

@@ -1,5 +1,6 @@
 #!/usr/bin/env bash
-# Compares `dshark central` with reports that are made anew from tshark's fields: of the sample network with all of its
+# Compares `dshark central`, and `dshark run` by pipelines of several shapes, with reports that are made anew from
+# tshark's fields: of the sample network with all of its
 # jobs, and of the jobs that central_variations.py makes (files that are cut, equal times, both byte orders and units,
 # late records, ends of windows, clocks with offsets, skews of captures, interfaces, random traffic). The stored reports
 # of the sample network are the same text.
@@ -23,16 +24,20 @@ same() { # WHAT EXPECTED TEXT
     return 1
 }
 
-# Runs a job in its folder, by the program and by the peer.
+# Runs a job in its folder, by each command that owes its report and by the peer.
 agrees() { # FOLDER JOB
-    local status
+    local status words
     (cd "$1" && python3 "$peer" "$2") >"$room/expected" || { echo "FAILED $1/$2: the peer has no report"; return 1; }
-    (cd "$1" && "$program" central "$2") >"$room/report" 2>"$room/line"
-    status=$?
-    same "$1/$2" "$room/expected" "$room/report" || return 1
-    [ "$status" -eq 0 ] && [ ! -s "$room/line" ] && return 0
-    echo "FAILED $1/$2: status $status, expected 0; line $(cat "$room/line")"
-    return 1
+    for words in "central $2" "run $2" "run $2 --parsers 1 --groupers 1 --processors 1" \
+        "run $2 --parsers 16 --groupers 16 --processors 16 --credits 1"; do
+        # shellcheck disable=SC2086
+        (cd "$1" && "$program" $words) >"$room/report" 2>"$room/line"
+        status=$?
+        same "$1: $words" "$room/expected" "$room/report" || return 1
+        [ "$status" -eq 0 ] && [ ! -s "$room/line" ] && continue
+        echo "FAILED $1: $words: status $status, expected 0; line $(cat "$room/line")"
+        return 1
+    done
 }
 
 # The sample network: its captures are those that its script makes, and its reports those of the peer.

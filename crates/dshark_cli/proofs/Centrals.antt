@@ -21,11 +21,12 @@ use Rattle.job_inputs.specs.declared.fault.CapturesFault.TheVariants.{Malformed,
 use Rattle.job_inputs.specs.declared.fault.JobFileFault.{JobFileFault}
 use Rattle.job_inputs.specs.declared.fault.JobFileFault.TheVariants as job
 use Rattle.run_faults.specs.declared.fault.RunFault.{RunFault}
-use Rattle.dshark_cli.specs.declared.job_report.ReportFault.{ReportFault}
-use Rattle.dshark_cli.specs.declared.job_report.ReportFault.TheVariants.{Captures, Unwritten}
+use Rattle.job_inputs.specs.declared.fault.ReportFault.{ReportFault}
+use Rattle.job_inputs.specs.declared.fault.ReportFault.TheVariants.{Captures, Unwritten}
 use Rattle.dshark_cli.specs.Faults.{of_job, of_report}
 use Rattle.dshark_cli.specs.Naming.{IfMalformed, IsNameAt, NamesFault}
-use Rattle.dshark_cli.specs.Reports.{report_in, AreAllSound, WritesReport, StopsReport, IfCapture}
+use Rattle.job_inputs.specs.Reports.{report_in, AreAllSound, WritesReport}
+use Rattle.dshark_cli.specs.Reports.{StopsReport, IfCapture}
 use Rattle.dshark_cli.specs.Rooms.{AJobAndItsCaptures, room_of, captures_of, IsSound}
 use Rattle.dshark_cli.specs.Run.{EndsOk, EndsBy}
 use Rattle.dshark_cli.proofs.Declaring.{captures_declared, names_declared, report_declared}
@@ -36,13 +37,13 @@ use Rattle.dshark_cli.proofs.Missing.{unread_first, unread_behind}
 -- ---- the folder behind the reading of the job
 
 -- a folder that tells is as it was, where nothing of it failed
-same_folder : (before now : FolderSeen) → FolderStays before now → now.faults ≡ before.faults → IsTrue before.told → now ≡ before
+pub same_folder : (before now : FolderSeen) → FolderStays before now → now.faults ≡ before.faults → IsTrue before.told → now ≡ before
 same_folder before now stays quiet told =
     ap (λ (t : Bool). record { told = t; files = now.files; faults = now.faults }) stays.told
     ∙ ap (λ (files : List NamedBytes). record { told = before.told; files = files; faults = now.faults }) (stays.files told)
     ∙ ap (λ (n : ℕ). record { told = before.told; files = before.files; faults = n }) quiet
 
-tells : (before now : FolderSeen) → FolderStays before now → IsTrue before.told → IsTrue now.told
+pub tells : (before now : FolderSeen) → FolderStays before now → IsTrue before.told → IsTrue now.told
 tells before now stays told = rw stays.told told
 
 -- ---- its ends
@@ -77,11 +78,11 @@ central_ok before now after old new name job stays read writes = record {
 }
 
 -- a job has at most 64 captures
-few_files : (job : Job) → length (declared_of job).files ≤ 64
+pub few_files : (job : Job) → length (declared_of job).files ≤ 64
 few_files job = omega (arith, job.lawful.files, job.lawful.captures.1)
 
 -- the file of a job that is declared is there
-job_there : (folder : FolderSeen) (name : List ℕ) (declared : Declared) → Declares folder name declared → HasFile folder name
+pub job_there : (folder : FolderSeen) (name : List ℕ) (declared : Declared) → Declares folder name declared → HasFile folder name
 job_there folder name declared (bytes, file, is) = has_file folder name bytes file
 
 pub central_stops : (before now after : FolderSeen) (old new : SinkSeen) (name : List ℕ) (job : Job) → FolderStays before now

@@ -7,7 +7,8 @@ use Rattle.summary_spec.specs.Declaration.{Declared}
 use Rattle.summary_spec.specs.Reads.{reads}
 use Rattle.job_inputs.specs.Jobs.{Declares}
 use Rattle.dshark_cli.specs.Said.{said_in, files_said, names_said}
-use Rattle.dshark_cli.specs.Reports.{report_in, report_said}
+use Rattle.job_inputs.specs.Reports.{report_in}
+use Rattle.dshark_cli.specs.Reports.{report_said}
 use Rattle.dshark_cli.specs.Rooms.{AJobAndItsCaptures, room_of, captures_of}
 
 -- the captures' files are those that it declares

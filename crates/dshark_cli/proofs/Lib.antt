@@ -10,3 +10,5 @@ pub mod Centrals
 pub mod Stopping
 pub mod Rooms
 pub mod Promised
+pub mod Streams
+pub mod Plain

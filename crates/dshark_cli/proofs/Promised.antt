@@ -106,7 +106,7 @@ promised run asked ended asks only prefix h =
       bad_job = λ fault is. let e = by (BadJob fault) is in ((asked, asks, e.0), e.1, λ told. (asked, asks, e.2 told));
       job_refused = λ fault told bad quiet.
           refused_ends room run fault ended h (of_asked run asked (λ (r : Room). IsSomeAnd (job_of r.opens) (λ name. IsBadJob run.before name fault)) only bad) told quiet;
-      malformed = λ capture at what is. let e = by (Malformed capture at what) is in ((asked, asks, e.0), e.1, λ told. (asked, asks, e.2 told));
+      malformed = λ capture at what is. let e = by (Malformed capture at what) is in ((asked, asks, e.0), (asked, asks, e.1), λ told. (asked, asks, e.2 told));
       written = λ capture at what is told out.
           if_asked run asked (λ (r : Room). HasWritten r.writes (r.due run.before) run.old run.new) only ((by (Malformed capture at what) is).3 told out);
       unread = λ file is. let e = by (ReadFault file) is in ((asked, asks, e.0), λ told. (asked, asks, e.1 told));

@@ -11,32 +11,14 @@ use Rattle.summary_spec.specs.CountJob.{count_job}
 use Rattle.summary_spec.specs.Declaration.{Declared}
 use Rattle.job_inputs.specs.Captures.{AreFiles, AreSound, IsUnreadAt}
 use Rattle.job_inputs.specs.declared.fault.CapturesFault.TheVariants.{Malformed, Unread, OutOfMemory}
-use Rattle.dshark_cli.specs.declared.job_report.ReportFault.{ReportFault}
-use Rattle.dshark_cli.specs.declared.job_report.ReportFault.TheVariants.{Captures, Unwritten}
+use Rattle.job_inputs.specs.declared.fault.ReportFault.{ReportFault}
+use Rattle.job_inputs.specs.declared.fault.ReportFault.TheVariants.{Captures, Unwritten}
 use Rattle.dshark_cli.specs.Faults.{of_count}
-use Rattle.dshark_cli.specs.Reports.{with_bytes, files_named, report_where, report_in, AreAllSound, ReportsCaptures, WritesReport, StopsReport}
+use Rattle.job_inputs.proofs.Reporting.{all_sound, report_is}
+use Rattle.job_inputs.specs.Reports.{report_in, AreAllSound, WritesReport}
+use Rattle.dshark_cli.specs.Reports.{ReportsCaptures, StopsReport}
 use Rattle.dshark_cli.specs.Rooms.{room_of}
 use Rattle.dshark_cli.specs.Run.{EndsOk, EndsBy}
-
--- ---- the files
-
--- these are all there
-files_are : (folder : FolderSeen) (names files : List (List ℕ)) → AreFiles folder names files → files_named folder names ≡ Some files
-files_are folder [] [] are = refl
-files_are folder [] (bytes ∷ files) are = absurd are
-files_are folder (name ∷ names) [] are = absurd are
-files_are folder (name ∷ names) (bytes ∷ files) are =
-    ap (λ found. with_bytes found (files_named folder names)) are.0 ∙ ap (with_bytes (Some bytes)) (files_are folder names files are.1)
-
--- and sound, where none is malformed
-all_sound : (folder : FolderSeen) (names files : List (List ℕ)) → AreFiles folder names files → AreSound files → AreAllSound folder names
-all_sound folder [] files are sound = tt
-all_sound folder (name ∷ names) [] are sound = absurd are
-all_sound folder (name ∷ names) (bytes ∷ files) are sound = ((bytes, are.0, sound.0), all_sound folder names files are.1 sound.1)
-
--- the report over them
-report_is : (folder : FolderSeen) (job : Declared) (files : List (List ℕ)) → AreFiles folder job.files files → report_in folder job ≡ report job files
-report_is folder job files are = ap (report_where job) (files_are folder job.files files are)
 
 -- ---- the writing
 

@@ -13,8 +13,8 @@ use Rattle.job_inputs.specs.Captures.{IsUnreadAt}
 use Rattle.input_files.specs.Files.{HasSound, IsMalformed}
 use Rattle.job_inputs.specs.Jobs.{HasJob, IsBadJob}
 use Rattle.dshark_cli.specs.Said.{files_said}
-use Rattle.dshark_cli.specs.Reports.{AreAllSound}
-use Rattle.dshark_cli.specs.Rooms.{Opens, NoFile, ACapture, AJob, AJobAndItsCaptures, Writes, AtTheEnd, InStep, Blames, TheFirst, AnyOne, job_of, captures_of, most_captures, files_of, most_files, AcceptsJob, IsSound, IsReady, IsBlamed}
+use Rattle.job_inputs.specs.Reports.{AreAllSound}
+use Rattle.dshark_cli.specs.Rooms.{Opens, NoFile, ACapture, AJob, AJobAndItsCaptures, Writes, AtTheEnd, InStep, AsItComes, Blames, TheFirst, AnyOne, job_of, captures_of, most_captures, files_of, most_files, AcceptsJob, IsSound, IsReady, IsBlamed}
 use Rattle.job_inputs.proofs.Missing.{IsFirstUnread}
 
 -- ---- lists of names
@@ -137,6 +137,7 @@ pub bad_and_ready : (writes : Writes) (opens : Opens) (folder : FolderSeen) (fau
     → IsReady writes opens folder → ⊥
 bad_and_ready AtTheEnd opens folder fault bad ready = not_bad_job (job_of opens) folder fault ready.0 bad
 bad_and_ready InStep opens folder fault bad ready = not_bad_job (job_of opens) folder fault ready bad
+bad_and_ready AsItComes opens folder fault bad ready = not_bad_job (job_of opens) folder fault ready.0 bad
 
 -- ---- whoever opens no file has none to name
 

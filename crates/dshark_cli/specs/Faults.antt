@@ -8,8 +8,8 @@ use Rattle.run_faults.specs.declared.fault.RunFault.{RunFault}
 use Rattle.run_faults.specs.declared.fault.RunFault.TheVariants.{BadJob, Malformed, ReadFault, WriteFault, OutOfMemory}
 use Rattle.stack_lines.specs.declared.fault.StackFault.{StackFault}
 use Rattle.stack_lines.specs.declared.fault.StackFault.TheVariants as stack
-use Rattle.dshark_cli.specs.declared.job_report.ReportFault.{ReportFault}
-use Rattle.dshark_cli.specs.declared.job_report.ReportFault.TheVariants as report
+use Rattle.job_inputs.specs.declared.fault.ReportFault.{ReportFault}
+use Rattle.job_inputs.specs.declared.fault.ReportFault.TheVariants as report
 
 -- of a job's file, which is file 0
 abbrev pub of_job : JobFileFault → RunFault

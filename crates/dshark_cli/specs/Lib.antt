@@ -1,8 +1,10 @@
 pub mod Said
 pub mod Reports
 pub mod Faults
+pub mod Shapes
 pub mod Rooms
 pub mod Run
 pub mod Words
+pub mod Links
 pub mod Promises
 pub mod Naming

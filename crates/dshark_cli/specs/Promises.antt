@@ -9,7 +9,7 @@ use Rattle.run_faults.specs.declared.fault.RunFault.{RunFault}
 use Rattle.run_faults.specs.declared.fault.RunFault.TheVariants.{Usage, BadJob, Malformed, ReadFault, WriteFault, OutOfMemory}
 use Rattle.job_inputs.specs.Captures.{IsUnreadAt}
 use Rattle.job_inputs.specs.Jobs.{IsBadJob}
-use Rattle.dshark_cli.specs.Rooms.{Room, room_of, job_of, captures_of, most_captures, files_of, most_files, IsSound, LeavesFolder, IsReady, HasReadAll, HasWaited, HasWritten, IsBlamed}
+use Rattle.dshark_cli.specs.Rooms.{Room, room_of, job_of, captures_of, most_captures, files_of, most_files, IsSound, LeavesFolder, IsReady, HasReadAll, HasWaited, HasWritten, IsBlamed, HasReadSo}
 use Rattle.dshark_cli.specs.Run.{Run}
 use Rattle.dshark_cli.specs.Words.{Give, due}
 
@@ -58,9 +58,9 @@ pub record Promises (run : Run) (ended : Option RunFault) : Type 0 where
   pub job_refused : (fault : JobFault) → IsTrue run.before.told → AsksBadJob run fault → IsQuiet run.before.faults run.after.faults →
       (ended ≡ Some (BadJob fault)) ⊎ (ended ≡ Some OutOfMemory)
   -- `Malformed` names a capture that the command opens, the one that it has to name, with its first malformed
-  -- place, where no read failed. A command that writes in step has written all that is due.
+  -- place; no read failed, if captures are read one by one. A command that writes in step has written all that is due.
   pub malformed : (capture at : ℕ) (what : PcapFault) → ended ≡ Some (Malformed capture at what) →
-      Asks run (λ room. capture < most_captures room.opens) × (run.after.faults ≡ run.before.faults)
+      Asks run (λ room. capture < most_captures room.opens) × Asks run (λ room. HasReadSo room.blames run.before run.after)
       × (IsTrue run.before.told → Asks run (λ room. IsBlamed room.blames run.before (captures_of room.opens run.before) capture at what))
   pub written : (capture at : ℕ) (what : PcapFault) → ended ≡ Some (Malformed capture at what) → IsTrue run.before.told → IsTrue run.old.told →
       IfAsked run (λ room. HasWritten room.writes (room.due run.before) run.old run.new)

@@ -5,15 +5,19 @@ use Rattle.std.specs.Prelude.{ℕ, ◌≡◌, ◌<◌, ◌≤◌, ◌+◌, ◌++
 use Rattle.ds_base.specs.Outside.{FolderSeen, SinkSeen, file_named}
 use Rattle.ds_base.specs.declared.capture.PcapFault.{PcapFault}
 use Rattle.command_words.specs.Words.{Asked}
-use Rattle.command_words.specs.Words.Asked.{AskedCount, AskedStack, AskedCheck, AskedCentral, AskedHelp, AskedVersion}
+use Rattle.command_words.specs.Words.Asked.{AskedCount, AskedStack, AskedCheck, AskedCentral, AskedRun, AskedSample, AskedHelp, AskedVersion}
 use Rattle.command_words.specs.declared.help.TheConstants.{HELP, VERSION_LINE}
 use Rattle.summary_spec.specs.CountJob.{count_job}
-use Rattle.job_inputs.specs.Captures.{IsFirstMalformed}
+use Rattle.job_inputs.specs.Captures.{IsFirstMalformed, AreThere}
 use Rattle.input_files.specs.Files.{IsMalformed}
 use Rattle.job_inputs.specs.Jobs.{HasJob}
 use Rattle.dshark_cli.specs.Said.{said_in, files_said, names_said, canonical_said}
-use Rattle.dshark_cli.specs.Reports.{report_in, report_said, AreAllSound}
+use Rattle.job_inputs.specs.Reports.{report_in, AreAllSound}
+use Rattle.dshark_cli.specs.Reports.{report_said}
 use Rattle.stack_lines.specs.Printing.{lines_in}
+use Rattle.new_pipeline.specs.Shapes.{IsWithin}
+use Rattle.dshark_cli.specs.Shapes.{shape_of}
+use Rattle.sample_run.specs.SampleLine.{sample_line}
 
 -- ---- what a command opens
 
@@ -75,30 +79,32 @@ NamesCapture _ folder name capture = Unit {0}
 -- ---- when a command writes
 
 -- Once all files were read and found sound; or in step with the reading, so that all that is due before a
--- malformed place was written when it is found.
+-- malformed place was written when it is found; or as soon as it can be known, while other files are read.
 pub data Writes : Type 0 where
   AtTheEnd : Writes
   InStep : Writes
+  AsItComes : Writes
 
 -- what is known of the folder when the first byte is written
 abbrev pub IsReady : Writes → Opens → FolderSeen → Type 0
 IsReady AtTheEnd opens folder = IsSound opens folder
 IsReady InStep opens folder = AcceptsJob opens folder
+IsReady AsItComes opens folder = AcceptsJob opens folder × AreThere folder (captures_of opens folder)
 
 -- no read has failed where a write fails, so that a failed write hides no failed read
 abbrev pub HasReadAll : Writes → FolderSeen → FolderSeen → Type 0
 HasReadAll AtTheEnd before after = after.faults ≡ before.faults
-HasReadAll InStep before after = Unit {0}
+HasReadAll _ before after = Unit {0}
 
 -- what was written where a fault other than a failed write is answered: nothing
 abbrev pub HasWaited : Writes → SinkSeen → SinkSeen → Type 0
 HasWaited AtTheEnd old new = new.written ≡ old.written
-HasWaited InStep old new = Unit {0}
+HasWaited _ old new = Unit {0}
 
 -- what was written before a malformed capture is answered: all that is due
 abbrev pub HasWritten : Writes → (due : List ℕ) → SinkSeen → SinkSeen → Type 0
-HasWritten AtTheEnd due old new = Unit {0}
 HasWritten InStep due old new = new.written ≡ old.written ++ due
+HasWritten _ due old new = Unit {0}
 
 -- ---- which malformed capture a command names
 
@@ -111,6 +117,11 @@ pub data Blames : Type 0 where
 abbrev pub IsBlamed : Blames → FolderSeen → (names : List (List ℕ)) → (capture at : ℕ) → PcapFault → Type 0
 IsBlamed TheFirst folder names capture at what = IsFirstMalformed folder names capture at what
 IsBlamed AnyOne folder names capture at what = (name : List ℕ) × (slice_get names capture ≡ Some name) × IsMalformed folder name at what
+
+-- no read has failed where a malformed capture is named, if captures are read one by one
+abbrev pub HasReadSo : Blames → FolderSeen → FolderSeen → Type 0
+HasReadSo TheFirst before after = after.faults ≡ before.faults
+HasReadSo AnyOne before after = Unit {0}
 
 -- ---- the commands
 
@@ -149,10 +160,24 @@ room_of (AskedCentral job) = record {
   blames = TheFirst;
   due = λ folder. report_said folder (said_in folder job);
 }
+room_of (AskedRun job sizes) = record {
+  opens = AJobAndItsCaptures job;
+  writes = AsItComes;
+  blames = AnyOne;
+  due = λ folder. report_said folder (said_in folder job);
+}
+room_of (AskedSample number sizes) = record {
+  opens = NoFile;
+  writes = AtTheEnd;
+  blames = TheFirst;
+  due = λ folder. sample_line number;
+}
 room_of AskedHelp = record { opens = NoFile; writes = AtTheEnd; blames = TheFirst; due = λ folder. HELP.now }
 room_of AskedVersion = record { opens = NoFile; writes = AtTheEnd; blames = TheFirst; due = λ folder. VERSION_LINE.now }
 
--- a window is at most an hour in nanoseconds
+-- a window is at most an hour in nanoseconds, and a pipeline has 1 to 16 nodes of each kind and 1 to 1,024 credits a link
 abbrev pub IsInLimits : Asked → Type 0
 IsInLimits (AskedCount field window file) = window ≤ 3600000000000
+IsInLimits (AskedRun job sizes) = IsWithin (shape_of sizes)
+IsInLimits (AskedSample number sizes) = IsWithin (shape_of sizes)
 IsInLimits _ = Unit {0}

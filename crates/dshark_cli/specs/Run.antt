@@ -6,7 +6,7 @@ use Rattle.run_faults.specs.declared.fault.RunFault.{RunFault}
 use Rattle.run_faults.specs.declared.fault.RunFault.TheVariants.{Usage, BadJob, Malformed, ReadFault, WriteFault, OutOfMemory}
 use Rattle.job_inputs.specs.Captures.{IsUnreadAt}
 use Rattle.job_inputs.specs.Jobs.{IsBadJob}
-use Rattle.dshark_cli.specs.Rooms.{Room, job_of, captures_of, most_captures, files_of, most_files, IsSound, LeavesFolder, IsReady, HasReadAll, HasWaited, HasWritten, IsBlamed}
+use Rattle.dshark_cli.specs.Rooms.{Room, job_of, captures_of, most_captures, files_of, most_files, IsSound, LeavesFolder, IsReady, HasReadAll, HasWaited, HasWritten, IsBlamed, HasReadSo}
 
 -- a run: the words, each as its bytes, and what contracts see of the folder and the output before it and after it
 pub record Run : Type 0 where
@@ -34,7 +34,7 @@ EndsBy room before after old new (Usage place) = ⊥
 EndsBy room before after old new (BadJob fault) = IsSome (job_of room.opens) × (after.faults ≡ before.faults)
     × (IsTrue before.told → IsSomeAnd (job_of room.opens) (λ name. IsBadJob before name fault))
     × (IsTrue old.told → HasWaited room.writes old new)
-EndsBy room before after old new (Malformed capture at what) = (capture < most_captures room.opens) × (after.faults ≡ before.faults)
+EndsBy room before after old new (Malformed capture at what) = (capture < most_captures room.opens) × HasReadSo room.blames before after
     × (IsTrue before.told → IsBlamed room.blames before (captures_of room.opens before) capture at what)
     × (IsTrue before.told → IsTrue old.told → HasWritten room.writes (room.due before) old new)
     × (IsTrue old.told → HasWaited room.writes old new)

@@ -13,9 +13,9 @@ ghost use Rattle.dshark_cli.specs.Rooms.{room_of};
 ghost use Rattle.dshark_cli.specs.Run.{EndsOk, EndsBy};
 
 use crate::faults::of_job;
-use crate::job_report::{ReportFault, write_report};
+use crate::job_report::write_report;
 use ds_base::{Folder, Sink};
-use job_inputs::{CapturesFault, read_job};
+use job_inputs::{CapturesFault, ReportFault, read_job};
 use run_faults::{CaptureName, RunFault, Stop};
 use std::alloc::Global;
 use summary_spec::Job;
@@ -49,7 +49,7 @@ pub fn run_central<F: Folder, O: Sink>(
 /// The stop by a fault of a job's report, with the name of the capture where one is malformed. File k + 1
 /// is that of capture k.
 #[tactic(auto, using(job_inputs::proofs::JobCaptures::few_captures))]
-fn stop_by(job: &Job, fault: ReportFault) -> Stop
+pub fn stop_by(job: &Job, fault: ReportFault) -> Stop
     requires declared { IsDeclared (declared_of job.now) }
     requires capture { IfCapture fault (λ capture. capture < length job.now.names.captures.items) }
     ensures fault { result.fault ≡ of_report fault }

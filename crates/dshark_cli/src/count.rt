@@ -8,10 +8,10 @@ ghost use Rattle.dshark_cli.specs.Faults.{of_count};
 ghost use Rattle.dshark_cli.specs.Rooms.{room_of};
 ghost use Rattle.dshark_cli.specs.Run.{EndsOk, EndsBy};
 
-use crate::job_report::{ReportFault, write_report};
+use crate::job_report::write_report;
 use ds_base::{Folder, Sink};
 use field_table::FieldRef;
-use job_inputs::CapturesFault;
+use job_inputs::{CapturesFault, ReportFault};
 use run_faults::RunFault;
 use std::alloc::Global;
 use summary_spec::Job;

@@ -5,23 +5,15 @@ ghost use Rattle.ds_base.specs.Gain.{GainsPrefix};
 ghost use Rattle.ds_base.specs.Outside.{FolderStays, SinkStays};
 ghost use Rattle.job_inputs.specs.Captures.{StopsCaptures};
 ghost use Rattle.summary_spec.specs.Job.{declared_of};
-ghost use Rattle.dshark_cli.specs.Reports.{report_in, ReportsCaptures, WritesReport, StopsReport};
+ghost use Rattle.job_inputs.specs.Reports.{report_in, WritesReport};
+ghost use Rattle.dshark_cli.specs.Reports.{ReportsCaptures, StopsReport};
 
 use central_report::{accepted_reportable, central_text};
 use ds_base::{Folder, Sink, Text};
-use job_inputs::{CapturesFault, gather_captures};
+use job_inputs::{CapturesFault, ReportFault, gather_captures};
 use output_text::write_all;
 use std::alloc::Global;
 use summary_spec::Job;
-
-/// Why the report of a job was not written.
-#[derive(Clone, Copy)]
-pub enum ReportFault {
-    /// The captures were not all gathered, or there was no memory for the report.
-    Captures(CapturesFault),
-    /// The output could not be written.
-    Unwritten,
-}
 
 /// Writes the report of a job over its captures. All captures are read to their ends before the first
 /// byte is written.

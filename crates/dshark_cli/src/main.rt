@@ -9,6 +9,8 @@ mod count;
 mod faults;
 mod job_report;
 mod output;
+mod run;
+mod sample;
 mod stack;
 #[cfg(test)]
 mod tests;

@@ -1,9 +1,9 @@
-//! The command `central`: the report of a job over its three captures.
+//! The commands `central` and `run`: the report of a job over its three captures.
 
 use super::captures::Form::{BigNano, Micro, Nano};
 use super::captures::Seen::{Arp, Bare, Gre, Vxlan};
 use super::captures::{A, B, C, Capture, EMPTY, file};
-use super::harness::{CALM, Named, ends_ok, run_over};
+use super::harness::{CALM, Named, REPORTS, ends_ok, run_over};
 use super::reports::{END, LOOP, NONE, ONE, PACKET_LINE, THREE, TWO, job, report};
 use std::alloc::{AllocError, Global};
 use std::process::Abort;
@@ -25,8 +25,10 @@ fn writes<R: Threads + Sync + Abort>(
 ) -> Result<(), AllocError> {
     let [job, a, b, c] = files;
     let named: [Named<'_>; 4] = [("j", job), ("a", a), ("b", b), ("c", c)];
-    let left = run_over(rt, alloc, "central j", &named, CALM)?;
-    ends_ok(rt, &left, report);
+    for line in REPORTS {
+        let left = run_over(rt, alloc, line, &named, CALM)?;
+        ends_ok(rt, &left, report);
+    }
     Ok(())
 }
 

@@ -1,9 +1,9 @@
-//! Captures whose clocks differ: `central` over jobs of version 2.
+//! Captures whose clocks differ: `central` and `run` over jobs of version 2.
 
 use super::captures::Form::{Micro, Nano};
 use super::captures::Seen::Bare;
 use super::captures::{A, Capture, EMPTY, file};
-use super::harness::{CALM, Named, ends_ok, run_over, stops};
+use super::harness::{CALM, Named, REPORTS, ends_ok, run_over, stops};
 use super::reports::{LOOP, NONE, ONE, THREE, report};
 use std::alloc::{AllocError, Global};
 use std::process::Abort;
@@ -63,8 +63,10 @@ fn answers<R: Threads + Sync + Abort>(
         ("b", b.as_slice()),
         ("c", c.as_slice()),
     ];
-    let left = run_over(rt, alloc, "central j", &named, CALM)?;
-    ends_ok(rt, &left, report.as_slice());
+    for line in REPORTS {
+        let left = run_over(rt, alloc, line, &named, CALM)?;
+        ends_ok(rt, &left, report.as_slice());
+    }
     Ok(())
 }
 

@@ -80,7 +80,7 @@ fn a_malformed_capture_is_named_with_its_place(rt: HostRuntime) -> Result<(), Fa
         let left = run(&rt, alloc, line, bytes, CALM)?;
         stops(&rt, &left, 2, err, out.as_bytes());
     }
-    // Of a job, the first one.
+    // Of a job, `central` names the first one.
     let plain = job(alloc, "0", LOOP, "")?;
     let j = plain.as_slice();
     let a = file(alloc, A)?;
@@ -89,13 +89,16 @@ fn a_malformed_capture_is_named_with_its_place(rt: HostRuntime) -> Result<(), Fa
     let (a, b, c) = (a.as_slice(), b.as_slice(), c.as_slice());
     let half = &HEADER[..23];
     let line = "dshark: capture s1: byte 0: short header\n";
-    names_capture(&rt, alloc, j, &[], b, c, short(0, 0), line)?;
+    names_capture(&rt, alloc, "central j", j, &[], b, c, short(0, 0), line)?;
+    names_capture(&rt, alloc, "run j", j, &[], b, c, short(0, 0), line)?;
     let line = "dshark: capture s1: byte 23: short header\n";
-    names_capture(&rt, alloc, j, half, b, c, short(0, 23), line)?;
+    names_capture(&rt, alloc, "central j", j, half, b, c, short(0, 23), line)?;
+    names_capture(&rt, alloc, "run j", j, half, b, c, short(0, 23), line)?;
     let line = "dshark: capture s3: byte 0: short header\n";
-    names_capture(&rt, alloc, j, a, b, &[], short(2, 0), line)?;
+    names_capture(&rt, alloc, "central j", j, a, b, &[], short(2, 0), line)?;
+    names_capture(&rt, alloc, "run j", j, a, b, &[], short(2, 0), line)?;
     let line = "dshark: capture s2: byte 23: short header\n";
-    names_capture(&rt, alloc, j, a, half, &[], short(1, 23), line)?;
+    names_capture(&rt, alloc, "central j", j, a, half, &[], short(1, 23), line)?;
     let fault = RunFault::Malformed {
         capture: 0,
         at: 206,
@@ -105,7 +108,18 @@ fn a_malformed_capture_is_named_with_its_place(rt: HostRuntime) -> Result<(), Fa
         },
     };
     let line = "dshark: capture s1: byte 206: record 3 length 262145\n";
-    names_capture(&rt, alloc, j, long.as_slice(), b, c, fault, line)?;
+    names_capture(
+        &rt,
+        alloc,
+        "central j",
+        j,
+        long.as_slice(),
+        b,
+        c,
+        fault,
+        line,
+    )?;
+    names_capture(&rt, alloc, "run j", j, long.as_slice(), b, c, fault, line)?;
     Ok(())
 }
 
@@ -118,10 +132,11 @@ fn short(capture: u32, len: u64) -> RunFault {
     }
 }
 
-/// The job over these three captures ends with this fault and this line, and writes nothing.
+/// By this command the job over these three captures ends with this fault and this line, and writes nothing.
 fn names_capture<'a, R: Threads + Sync + Abort>(
     rt: &R,
     alloc: Global,
+    command: &str,
     j: &'a [u8],
     a: &'a [u8],
     b: &'a [u8],
@@ -130,7 +145,7 @@ fn names_capture<'a, R: Threads + Sync + Abort>(
     line: &str,
 ) -> Result<(), AllocError> {
     let named: [Named<'a>; 4] = [("j", j), ("a", a), ("b", b), ("c", c)];
-    let left = run_over(rt, alloc, "central j", &named, CALM)?;
+    let left = run_over(rt, alloc, command, &named, CALM)?;
     assert_eq!(rt; left.fault, Some(fault));
     stops(rt, &left, 2, line, b"");
     Ok(())
@@ -146,6 +161,8 @@ fn a_missing_file_is_named(rt: HostRuntime) -> Result<(), Fail> {
     for (line, number, text) in [
         ("central j", 3, "dshark: read: file 3\n"),
         ("central d", 0, "dshark: read: file 0\n"),
+        ("run j", 3, "dshark: read: file 3\n"),
+        ("run d", 0, "dshark: read: file 0\n"),
         ("check d", 0, "dshark: read: file 0\n"),
         ("count ipv4[0].id 1 d", 0, "dshark: read: file 0\n"),
         ("stack d", 0, "dshark: read: file 0\n"),

@@ -55,6 +55,14 @@ fn words(alloc: Global, line: &str) -> Result<Vec<String>, AllocError> {
     Ok(words)
 }
 
+/// The commands that owe the report of the job `j`: by the plain program, and by pipelines of several shapes.
+pub(crate) const REPORTS: [&str; 4] = [
+    "central j",
+    "run j --parsers 1 --groupers=1 --processors 1",
+    "run j",
+    "run j --parsers 16 --groupers 16 --processors 16 --credits 1",
+];
+
 /// A file in memory: its name and its bytes.
 pub(crate) type Named<'a> = (&'a str, &'a [u8]);
 

@@ -9,4 +9,5 @@ mod faults;
 mod harness;
 mod pcapng;
 mod reports;
+mod sample;
 mod stack;

@@ -1,7 +1,7 @@
 //! Captures in pcapng: `count`, `stack` and `central` over the interfaces of a file.
 
 use super::captures::{B, C, EMPTY, PACKET, file};
-use super::harness::{CALM, Named, ends_ok, run, run_over, stops};
+use super::harness::{CALM, Named, REPORTS, ends_ok, run, run_over, stops};
 use super::reports::{END, LOOP, NONE, ONE, PACKET_LINE, job, report};
 use std::alloc::{AllocError, Global};
 use std::process::Abort;
@@ -82,9 +82,11 @@ fn answers<R: Threads + Sync + Abort>(
         ("b", b.as_slice()),
         ("c", c.as_slice()),
     ];
-    let left = run_over(rt, alloc, "central j", &named, CALM)?;
     let report = report(alloc, lines, [first, ONE, ONE], end)?;
-    ends_ok(rt, &left, report.as_slice());
+    for line in REPORTS {
+        let left = run_over(rt, alloc, line, &named, CALM)?;
+        ends_ok(rt, &left, report.as_slice());
+    }
     Ok(())
 }
 
@@ -152,14 +154,16 @@ fn captures_are_interfaces_of_one_file(rt: HostRuntime) -> Result<(), Fail> {
         ("a", two.as_slice()),
         ("c", c.as_slice()),
     ];
-    let left = run_over(&rt, alloc, "central j", &named, CALM)?;
     let report = report(
         alloc,
         "G 1000000000 s1 0 key=7 n=2 ok\n",
         [ONE, ONE, NONE],
         "groups=1 summaries=2",
     )?;
-    ends_ok(&rt, &left, report.as_slice());
+    for line in REPORTS {
+        let left = run_over(&rt, alloc, line, &named, CALM)?;
+        ends_ok(&rt, &left, report.as_slice());
+    }
     Ok(())
 }
 
