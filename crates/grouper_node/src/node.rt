@@ -128,6 +128,13 @@ impl<'a, T: NamedTx, R: NamedRx> GrouperNode<'a, T, R> {
         }
     }
 
+    /// The fault that it met, which each later turn answers again, or None.
+    pub fn fault(&self) -> Option<NodeFault>
+        ensures { result ≡ self.now.fault }
+    {
+        self.fault
+    }
+
     /// Whether it has met no fault, has taken and granted all that comes, and has put and sent all that is due.
     pub fn done(&self) -> bool
         ensures done { result ≡ true → (self.now.fault ≡ None) × IsDone (grouper_view self.now) }

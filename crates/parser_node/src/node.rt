@@ -112,6 +112,13 @@ impl<'a, S: Source, T: NamedTx, R: NamedRx> ParserNode<'a, S, T, R> {
         }
     }
 
+    /// The fault that it met, which each later turn answers again, or None.
+    pub fn fault(&self) -> Option<NodeFault>
+        ensures { result ≡ self.now.fault }
+    {
+        self.fault
+    }
+
     /// Whether it has met no fault, has read all captures to their ends, and has put and sent all that is due.
     pub fn done(&self) -> bool
         ensures done { result ≡ true → (self.now.fault ≡ None) × IsDone (parser_view self.now) }

@@ -123,6 +123,13 @@ impl<'a, T: NamedTx, R: NamedRx> QueryNode<'a, T, R> {
         }
     }
 
+    /// The fault that it met, which each later turn answers again, or None.
+    pub fn fault(&self) -> Option<NodeFault>
+        ensures { result ≡ self.now.fault }
+    {
+        self.fault
+    }
+
     /// Whether it has met no fault, has taken and granted all that comes, and has put and sent all that is due.
     pub fn done(&self) -> bool
         ensures done { result ≡ true → (self.now.fault ≡ None) × IsDone (processor_view self.now) }

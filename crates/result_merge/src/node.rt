@@ -158,6 +158,13 @@ impl<'a, O: Sink, T: NamedTx, R: NamedRx> MergeNode<'a, O, T, R> {
         self.work.taken(link)
     }
 
+    /// The fault that it met, which each later turn answers again, or None.
+    pub fn fault(&self) -> Option<NodeFault>
+        ensures { result ≡ self.now.merge.fault }
+    {
+        self.fault
+    }
+
     /// Whether it has met no fault, has taken and granted all frames, and all is written.
     pub fn done(&self) -> bool
         ensures done { result ≡ true → (self.now.merge.fault ≡ None) × IsDone (merge_view self.now.merge) }
