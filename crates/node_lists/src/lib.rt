@@ -9,4 +9,4 @@ mod lists;
 
 pub use append::{append_items, append_lists, push_at};
 pub use dealing::{deal, gather};
-pub use lists::{destroy_lists, lists_with_room, put_list, take_list};
+pub use lists::{destroy_lists, list_with_room, lists_with_room, put_list, take_list};

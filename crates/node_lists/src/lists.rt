@@ -30,8 +30,8 @@ pub fn lists_with_room<T>(
     Ok(lists)
 }
 
-// A list without items that has room for so many.
-fn list_with_room<T>(alloc: Global, room: u64) -> Result<ItemList<T>, OutOfMemory>
+/// A list without items that has room for so many. It is refused for want of memory alone.
+pub fn list_with_room<T>(alloc: Global, room: u64) -> Result<ItemList<T>, OutOfMemory>
     ensures empty { IfOk result (λ list. list.items ≡ []) }
     ensures room { IfOk result (λ list. room ≤ list.spare) }
 {
