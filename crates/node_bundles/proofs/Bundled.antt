@@ -1,42 +1,53 @@
--- Rounds of a bundle, none or one after another.
+-- Turns of a node of any kind, none or one after another.
+use Rattle.std.proofs.Common.{List, refl, subst}
 use Rattle.net_law.specs.Parsers.{ParserSeen, ParserStands, ParserGoes, ParserMeets, parser_tells, parser_view}
 use Rattle.net_law.specs.Groupers.{GrouperSeen, GrouperStands, GrouperGoes, GrouperMeets, grouper_tells, grouper_view}
 use Rattle.net_law.specs.Processors.{ProcessorSeen, ProcessorStands, ProcessorGoes, ProcessorMeets, processor_tells, processor_view}
 use Rattle.net_law.proofs.Going.{parser_stays, parser_then, grouper_stays, grouper_then, processor_stays, processor_then}
-use Rattle.std.proofs.Common.{List}
-use Rattle.node_bundles.specs.declared.bundle.Bundle.{Bundle}
-use Rattle.node_bundles.specs.declared.seat.Seat.{Seat}
+use Rattle.node_bundles.specs.declared.any_node.AnyNode.{AnyNode}
+use Rattle.node_bundles.specs.declared.any_node.AnyNode.TheVariants.{Parser, Grouper, Processor}
 use Rattle.node_bundles.specs.Going.{Each}
-use Rattle.node_bundles.specs.Kinds.{parser_tells_on, grouper_tells_on, processor_tells_on}
-use Rattle.node_bundles.specs.Bundles.{ParserSeatWent, GrouperSeatWent, ProcessorSeatWent, BundleWent}
-use Rattle.node_bundles.proofs.Going.{seats_self, seats_then}
+use Rattle.node_bundles.specs.Kinds.{ParserWent, GrouperWent, ProcessorWent, parser_tells_on, grouper_tells_on, processor_tells_on}
+use Rattle.node_bundles.specs.Bundles.{AnyWent}
+use Rattle.node_bundles.proofs.Going.{went_nowhere, went_then, each_self, each_then}
 
-pub parsers_self : (xs : List (Seat ParserSeen)) → Each ParserSeatWent xs xs
-parsers_self xs = seats_self ParserSeen ParserStands ParserGoes ParserMeets (λ (n : ParserSeen). n.fault) parser_tells parser_view parser_stays parser_then parser_tells_on xs
+pub parser_nowhere : (a : ParserSeen) → ParserWent a a
+parser_nowhere a = went_nowhere ParserSeen ParserStands ParserGoes ParserMeets (λ (n : ParserSeen). n.fault) parser_tells parser_view parser_stays a
 
-parsers_then : (xs ys zs : List (Seat ParserSeen)) → Each ParserSeatWent xs ys → Each ParserSeatWent ys zs → Each ParserSeatWent xs zs
-parsers_then xs ys zs f g = seats_then ParserSeen ParserStands ParserGoes ParserMeets (λ (n : ParserSeen). n.fault) parser_tells parser_view parser_stays parser_then parser_tells_on xs ys zs f g
+pub parser_went : (a b c : ParserSeen) → ParserWent a b → ParserWent b c → ParserWent a c
+parser_went a b c f g = went_then ParserSeen ParserStands ParserGoes ParserMeets (λ (n : ParserSeen). n.fault) parser_tells parser_view parser_stays parser_then parser_tells_on a b c f g
 
-pub groupers_self : (xs : List (Seat GrouperSeen)) → Each GrouperSeatWent xs xs
-groupers_self xs = seats_self GrouperSeen GrouperStands GrouperGoes GrouperMeets (λ (n : GrouperSeen). n.fault) grouper_tells grouper_view grouper_stays grouper_then grouper_tells_on xs
+pub grouper_nowhere : (a : GrouperSeen) → GrouperWent a a
+grouper_nowhere a = went_nowhere GrouperSeen GrouperStands GrouperGoes GrouperMeets (λ (n : GrouperSeen). n.fault) grouper_tells grouper_view grouper_stays a
 
-groupers_then : (xs ys zs : List (Seat GrouperSeen)) → Each GrouperSeatWent xs ys → Each GrouperSeatWent ys zs → Each GrouperSeatWent xs zs
-groupers_then xs ys zs f g = seats_then GrouperSeen GrouperStands GrouperGoes GrouperMeets (λ (n : GrouperSeen). n.fault) grouper_tells grouper_view grouper_stays grouper_then grouper_tells_on xs ys zs f g
+pub grouper_went : (a b c : GrouperSeen) → GrouperWent a b → GrouperWent b c → GrouperWent a c
+grouper_went a b c f g = went_then GrouperSeen GrouperStands GrouperGoes GrouperMeets (λ (n : GrouperSeen). n.fault) grouper_tells grouper_view grouper_stays grouper_then grouper_tells_on a b c f g
 
-pub processors_self : (xs : List (Seat ProcessorSeen)) → Each ProcessorSeatWent xs xs
-processors_self xs =
-    seats_self ProcessorSeen ProcessorStands ProcessorGoes ProcessorMeets (λ (n : ProcessorSeen). n.fault) processor_tells processor_view processor_stays processor_then processor_tells_on xs
+pub processor_nowhere : (a : ProcessorSeen) → ProcessorWent a a
+processor_nowhere a = went_nowhere ProcessorSeen ProcessorStands ProcessorGoes ProcessorMeets (λ (n : ProcessorSeen). n.fault) processor_tells processor_view processor_stays a
 
-processors_then : (xs ys zs : List (Seat ProcessorSeen)) → Each ProcessorSeatWent xs ys → Each ProcessorSeatWent ys zs → Each ProcessorSeatWent xs zs
-processors_then xs ys zs f g =
-    seats_then ProcessorSeen ProcessorStands ProcessorGoes ProcessorMeets (λ (n : ProcessorSeen). n.fault) processor_tells processor_view processor_stays processor_then processor_tells_on xs ys zs f g
+pub processor_went : (a b c : ProcessorSeen) → ProcessorWent a b → ProcessorWent b c → ProcessorWent a c
+processor_went a b c f g =
+    went_then ProcessorSeen ProcessorStands ProcessorGoes ProcessorMeets (λ (n : ProcessorSeen). n.fault) processor_tells processor_view processor_stays processor_then processor_tells_on a b c f g
 
-pub bundle_self : (S : Type 0) (b : Bundle S) → BundleWent S b b
-bundle_self S b = record { parsers = parsers_self b.parsers.items; groupers = groupers_self b.groupers.items; processors = processors_self b.processors.items }
+pub any_nowhere : (S : Type 0) (a : AnyNode S) → AnyWent S a a
+any_nowhere S (Parser a) = (a, refl, parser_nowhere a)
+any_nowhere S (Grouper a) = (a, refl, grouper_nowhere a)
+any_nowhere S (Processor a) = (a, refl, processor_nowhere a)
 
-pub bundle_then : (S : Type 0) (a b c : Bundle S) → BundleWent S a b → BundleWent S b c → BundleWent S a c
-bundle_then S a b c f g = record {
-  parsers = parsers_then a.parsers.items b.parsers.items c.parsers.items f.parsers g.parsers;
-  groupers = groupers_then a.groupers.items b.groupers.items c.groupers.items f.groupers g.groupers;
-  processors = processors_then a.processors.items b.processors.items c.processors.items f.processors g.processors;
-}
+pub any_then : (S : Type 0) (a b c : AnyNode S) → AnyWent S a b → AnyWent S b c → AnyWent S a c
+any_then S (Parser a) b c (m, is, f) g =
+    let later : AnyWent S (Parser m) c = subst (λ (x : AnyNode S). AnyWent S x c) is g in
+    (later.0, later.1, parser_went a m later.0 f later.2)
+any_then S (Grouper a) b c (m, is, f) g =
+    let later : AnyWent S (Grouper m) c = subst (λ (x : AnyNode S). AnyWent S x c) is g in
+    (later.0, later.1, grouper_went a m later.0 f later.2)
+any_then S (Processor a) b c (m, is, f) g =
+    let later : AnyWent S (Processor m) c = subst (λ (x : AnyNode S). AnyWent S x c) is g in
+    (later.0, later.1, processor_went a m later.0 f later.2)
+
+pub all_nowhere : (S : Type 0) (xs : List (AnyNode S)) → Each (AnyWent S) xs xs
+all_nowhere S xs = each_self (AnyWent S) (any_nowhere S) xs
+
+pub all_then : (S : Type 0) (xs ys zs : List (AnyNode S)) → Each (AnyWent S) xs ys → Each (AnyWent S) ys zs → Each (AnyWent S) xs zs
+all_then S xs ys zs f g = each_then (AnyWent S) (any_then S) xs ys zs f g

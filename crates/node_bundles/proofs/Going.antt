@@ -10,8 +10,7 @@ use Rattle.round_law.specs.Waits.{Node}
 use Rattle.round_law.specs.Rows.{moved, TurnSays, TurnTells}
 use Rattle.round_law.proofs.Counts.{still_counts}
 use Rattle.net_law.proofs.Turned.{at_or_other}
-use Rattle.node_bundles.specs.declared.seat.Seat.{Seat}
-use Rattle.node_bundles.specs.Going.{MetFirst, Went, SeatWent, Each}
+use Rattle.node_bundles.specs.Going.{MetFirst, Went, Each}
 
 no_less_on : (a b c : ℕ) → a ≤ b → b ≤ c → a ≤ c
 no_less_on a b c first second = omega arith
@@ -85,14 +84,6 @@ module _ (N : Type 0) (Stands : N → Type 0) (Goes : N → N → Type 0) (Meets
           none_mid none None had = had
           none_mid none (Some was) had = none_some was (sym none ∙ ap fault (g.same was had) ∙ had)
 
-      -- ---- seats
-
-      pub seat_nowhere : (a : Seat N) → SeatWent N Stands Goes Meets fault Tells shown a a
-      seat_nowhere a = record { went = went_nowhere a.node; noted = λ n. n }
-
-      pub seat_then : (a b c : Seat N) → SeatWent N Stands Goes Meets fault Tells shown a b → SeatWent N Stands Goes Meets fault Tells shown b c → SeatWent N Stands Goes Meets fault Tells shown a c
-      seat_then a b c f g = record { went = went_then a.node b.node c.node f.went g.went; noted = λ n. g.noted (f.noted n) }
-
 -- ---- item by item
 
 module _ {X : Type 0} (R : X → X → Type 0) where
@@ -113,12 +104,3 @@ module _ {X : Type 0} (R : X → X → Type 0) where
         (subst (λ (z : X). R z (get_or (set xs i y) i d)) (sym (get_or_from_slice_get xs i x d is)) (subst (R x) (sym (get_or-set_same xs i y d less)) step))
         (λ other. subst (R (get_or xs j d)) (sym (get_or-set_other xs i j y d other)) (same (get_or xs j d)));
   }
-
-module _ (N : Type 0) (Stands : N → Type 0) (Goes : N → N → Type 0) (Meets : N → N → NodeFault → Type 0) (fault : N → Option NodeFault) (Tells : N → Type 0) (shown : N → Node) (stays : (a : N) → Goes a a)
-    (goes_on : (a b c : N) → Goes a b → Goes b c → Goes a c) (tells_on : (a b : N) → Goes a b → Tells a → Tells b) where
-  pub seats_self : (xs : List (Seat N)) → Each (SeatWent N Stands Goes Meets fault Tells shown) xs xs
-  seats_self xs = each_self (SeatWent N Stands Goes Meets fault Tells shown) (seat_nowhere N Stands Goes Meets fault Tells shown stays goes_on tells_on) xs
-
-  pub seats_then : (xs ys zs : List (Seat N)) → Each (SeatWent N Stands Goes Meets fault Tells shown) xs ys → Each (SeatWent N Stands Goes Meets fault Tells shown) ys zs
-      → Each (SeatWent N Stands Goes Meets fault Tells shown) xs zs
-  seats_then xs ys zs f g = each_then (SeatWent N Stands Goes Meets fault Tells shown) (seat_then N Stands Goes Meets fault Tells shown stays goes_on tells_on) xs ys zs f g

@@ -1,22 +1,14 @@
--- What a phase leaves of a bundle.
-use Rattle.net_law.specs.Parsers.{ParserSeen, ParserStands, ParserGoes, ParserMeets, parser_tells, parser_view}
-use Rattle.net_law.specs.Groupers.{GrouperSeen, GrouperStands, GrouperGoes, GrouperMeets, grouper_tells, grouper_view}
-use Rattle.net_law.specs.Processors.{ProcessorSeen, ProcessorStands, ProcessorGoes, ProcessorMeets, processor_tells, processor_view}
-use Rattle.node_bundles.specs.declared.bundle.Bundle.{Bundle}
-use Rattle.node_bundles.specs.declared.seat.Seat.{Seat}
-use Rattle.node_bundles.specs.Going.{Each, SeatWent}
+-- What a phase leaves of the nodes of a bundle.
+use Rattle.std.specs.Prelude.{◌≡◌}
+use Rattle.net_law.specs.Parsers.{ParserSeen}
+use Rattle.net_law.specs.Groupers.{GrouperSeen}
+use Rattle.net_law.specs.Processors.{ProcessorSeen}
+use Rattle.node_bundles.specs.declared.any_node.AnyNode.{AnyNode}
+use Rattle.node_bundles.specs.declared.any_node.AnyNode.TheVariants.{Parser, Grouper, Processor}
+use Rattle.node_bundles.specs.Kinds.{ParserWent, GrouperWent, ProcessorWent}
 
-abbrev pub ParserSeatWent : Seat ParserSeen → Seat ParserSeen → Type 0
-ParserSeatWent = SeatWent ParserSeen ParserStands ParserGoes ParserMeets (λ n. n.fault) parser_tells parser_view
-
-abbrev pub GrouperSeatWent : Seat GrouperSeen → Seat GrouperSeen → Type 0
-GrouperSeatWent = SeatWent GrouperSeen GrouperStands GrouperGoes GrouperMeets (λ n. n.fault) grouper_tells grouper_view
-
-abbrev pub ProcessorSeatWent : Seat ProcessorSeen → Seat ProcessorSeen → Type 0
-ProcessorSeatWent = SeatWent ProcessorSeen ProcessorStands ProcessorGoes ProcessorMeets (λ n. n.fault) processor_tells processor_view
-
--- each of its nodes went on, and keeps its promise
-pub record BundleWent (S : Type 0) (before after : Bundle S) : Type 0 where
-  pub parsers : Each ParserSeatWent before.parsers.items after.parsers.items
-  pub groupers : Each GrouperSeatWent before.groupers.items after.groupers.items
-  pub processors : Each ProcessorSeatWent before.processors.items after.processors.items
+-- it is of the same kind, went on by turns, none or more, and keeps its promise
+abbrev pub AnyWent : (S : Type 0) → AnyNode S → AnyNode S → Type 0
+AnyWent S (Parser a) after = (b : ParserSeen) × (after ≡ Parser b) × ParserWent a b
+AnyWent S (Grouper a) after = (b : GrouperSeen) × (after ≡ Grouper b) × GrouperWent a b
+AnyWent S (Processor a) after = (b : ProcessorSeen) × (after ≡ Processor b) × ProcessorWent a b

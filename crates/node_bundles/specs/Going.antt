@@ -3,11 +3,6 @@ use Rattle.std.specs.Prelude.{ℕ, ◌≡◌, ◌<◌, ◌≤◌, Option, Some, 
 use Rattle.credit_link.specs.declared.turn.NodeFault.{NodeFault}
 use Rattle.round_law.specs.Waits.{Node}
 use Rattle.round_law.specs.Rows.{moved}
-use Rattle.node_bundles.specs.declared.seat.Seat.{Seat}
-
--- the fault noted beside a node is its own
-abbrev pub IsNoted : (N : Type 0) → (fault : N → Option NodeFault) → N → Option NodeFault → Type 0
-IsNoted N fault node noted = noted ≡ fault node
 
 module _ (N : Type 0) (Stands : N → Type 0) (Goes : N → N → Type 0) (Meets : N → N → NodeFault → Type 0) (fault : N → Option NodeFault) (Tells : N → Type 0) (shown : N → Node) where
   -- a turn met this fault, at a state that others had come to without one, and nothing was done after it
@@ -26,10 +21,6 @@ module _ (N : Type 0) (Stands : N → Type 0) (Goes : N → N → Type 0) (Meets
     pub same : (bad : NodeFault) → fault before ≡ Some bad → after ≡ before
     pub met : fault before ≡ None → (bad : NodeFault) → fault after ≡ Some bad → MetFirst before after bad
     pub rises : Tells before → fault after ≡ None → moved (shown before) ≤ moved (shown after)
-
-  pub record SeatWent (before after : Seat N) : Type 0 where
-    pub went : Went before.node after.node
-    pub noted : IsNoted N fault before.node before.fault → IsNoted N fault after.node after.fault
 
 -- item by item
 pub record Each {X : Type 0} (R : X → X → Type 0) (before after : List X) : Type 0 where

@@ -3,10 +3,10 @@
 //! back by a look, once both are in one thread again.
 #![tactic(auto)]
 
+mod any_node;
 mod bundle;
-mod seat;
 mod turning;
 
-pub use bundle::{Bundle, IDLE_ROUNDS, PHASE_ROUNDS};
-pub use seat::{Seat, turn_each, turn_last};
+pub use any_node::{AnyList, AnyNode, PHASE_CUT};
+pub use bundle::{IDLE_ROUNDS, PHASE_ROUNDS, run_bundle};
 pub use turning::{NoNode, TakesTurn};
