@@ -2,3 +2,4 @@ pub mod Holding
 pub mod Gathering
 pub mod Opened
 pub mod Ended
+pub mod Phasing

@@ -1,2 +1,3 @@
 pub mod Pipelines
 pub mod Going
+pub mod Phases

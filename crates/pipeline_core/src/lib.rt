@@ -6,6 +6,7 @@
 mod closing;
 mod keeping;
 mod opening;
+mod phasing;
 mod pipeline;
 mod turning;
 
