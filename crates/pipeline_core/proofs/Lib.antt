@@ -2,4 +2,3 @@ pub mod Holding
 pub mod Gathering
 pub mod Opened
 pub mod Ended
-pub mod Phasing

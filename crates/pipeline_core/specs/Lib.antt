@@ -1,3 +1,2 @@
 pub mod Pipelines
 pub mod Going
-pub mod Phases

@@ -1,5 +1,5 @@
-//! The first fault that a turn or a phase gave.
-ghost use Rattle.std.specs.Prelude.{◌≡◌, ◌⊎◌, ◌<◌, ◌≤◌, None, Some, Err, IfSome, IfOk, IfErr};
+//! The first fault that a turn of a node gave.
+ghost use Rattle.std.specs.Prelude.{◌≡◌, ◌<◌, None, Some, Err, IfSome, IfOk, IfErr};
 ghost use Rattle.credit_link.specs.declared.turn.NodeFault.{NodeFault as FaultSeen};
 ghost use Rattle.round_law.specs.Turns.{IsTurn};
 ghost use Rattle.net_law.specs.Rounds.{view, NoneHasFault, RowOf};
@@ -9,18 +9,12 @@ ghost use Rattle.run_rounds.specs.Faults.{node_count, fault_at};
 ghost use Rattle.run_rounds.specs.Looked.{NodesLooked};
 ghost use Rattle.pipeline_nodes.specs.Nodes.{IsNoLink, NodesStand};
 ghost use Rattle.pipeline_nodes.specs.Turns.{HasMet};
-ghost use Rattle.pipeline_phases.specs.Faults.{IsLowest};
-ghost use Rattle.pipeline_phases.specs.Phases.{IsPhase};
 ghost use Rattle.pipeline_core.specs.Pipelines.{FirstTells};
-ghost use Rattle.pipeline_core.specs.Phases.{no_room};
 
 use credit_link::{NodeFault, Turn};
-use ds_base::{Gate, Sink, Source};
+use ds_base::{Sink, Source};
 use pipeline_nodes::Nodes;
-use pipeline_phases::{first_fault, take_phase};
 use run_rounds::NodeAt;
-use std::alloc::Global;
-use std::thread::Threads;
 
 /// A turn of one node, whose fault is kept where none was met before.
 pub(crate) fn turn_and_keep<'a, S: Source, O: Sink>(
@@ -49,42 +43,6 @@ pub(crate) fn turn_and_keep<'a, S: Source, O: Sink>(
         Err(bad) => {
             *first = first_of(*first, NodeAt { node, fault: bad });
             Err(bad)
-        }
-    }
-}
-
-/// A phase of all nodes, after which the fault of the node with the lowest number is kept where none was met before.
-pub(crate) fn phase_and_keep<'a, R: Threads + Sync, S: Source + Send, O: Sink + Send, G: Gate + Sync>(
-    rt: &R,
-    alloc: Global,
-    nodes: &mut Nodes<'a, S, O>,
-    first: &mut Option<NodeAt>,
-    workers: u32,
-    gate: &G,
-) -> Result<(), NodeAt>
-    requires stands { NodesStand nodes.old.net }
-    requires workers { (1 ≤ workers) × (workers ≤ 16) }
-    ensures stands { NodesStand nodes.new.net }
-    ensures lent { nodes.new.lent ≡ nodes.old.lent }
-    ensures phase { IsPhase nodes.old.net nodes.new.net }
-    ensures quiet { IfOk result (λ _. NoneHasFault nodes.new.net) }
-    ensures fault { IfErr result (λ at. IsLowest nodes.new.net at ⊎ ((at ≡ no_room) × (nodes.new ≡ nodes.old) × (first.new ≡ first.old))) }
-    ensures tells { FirstTells nodes.old.net first.old → FirstTells nodes.new.net first.new }
-{
-    match take_phase(rt, alloc, nodes, workers, gate) {
-        Ok(()) => {}
-        Err(_) => {
-            return Err(NodeAt {
-                node: 0,
-                fault: NodeFault::OutOfMemory,
-            });
-        }
-    }
-    match first_fault(nodes) {
-        None => Ok(()),
-        Some(at) => {
-            *first = first_of(*first, at);
-            Err(at)
         }
     }
 }

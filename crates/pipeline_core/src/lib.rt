@@ -6,7 +6,6 @@
 mod closing;
 mod keeping;
 mod opening;
-mod phasing;
 mod pipeline;
 mod turning;
 

@@ -35,7 +35,7 @@ pub fn run_here<S: Source, O: Sink, C: Chooser>(
 }
 
 // A pipeline stands between turns.
-pub(crate) fn stands<S: Source, O: Sink>(pipeline: &Pipeline<'_, S, O>)
+fn stands<S: Source, O: Sink>(pipeline: &Pipeline<'_, S, O>)
     ensures { NetStands pipeline.now.net }
 {
     let _ = pipeline.node_count();
