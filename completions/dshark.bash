@@ -146,8 +146,8 @@ _dshark() {
         stack) plain=(CAPTURE) options=(--port --field) ;;
         check) plain=(JOB) options=() ;;
         central) plain=(JOB) options=() ;;
-        run) plain=(JOB) options=(--parsers --groupers --processors --workers --credits) ;;
-        sample) plain=(N) options=(--parsers --groupers --processors --workers --credits) ;;
+        run) plain=(JOB) options=(--parsers --groupers --processors --credits) ;;
+        sample) plain=(N) options=(--parsers --groupers --processors --credits) ;;
         --help) plain=() options=() ;;
         --version) plain=() options=() ;;
         *) return ;;
@@ -160,7 +160,6 @@ _dshark() {
         --parsers) kind=N ;;
         --port) kind=N ;;
         --processors) kind=N ;;
-        --workers) kind=N ;;
         *)
             for ((at = 2; at < COMP_CWORD; at++)); do
                 case ${COMP_WORDS[at]} in

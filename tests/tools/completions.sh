@@ -65,7 +65,7 @@ is 'the value of an option' 'gre[-1].key gre[0].key ' "$(offered dshark stack a 
 is 'the value after =' 'vxlan[-1].vni vxlan[0].vni ' "$(offered dshark stack --field = vxlan | tr ' ' '\n' | grep vni | tr '\n' ' ')"
 is 'a capture after an option' 'samples/one-link.pcap ' "$(offered dshark stack --port 4789 samples/one)"
 is 'options after the capture' '--field --port ' "$(offered dshark stack a '')"
-is 'the options of another command' '--credits --groupers --parsers --processors --workers ' "$(offered dshark sample 7 '')"
+is 'the options of another command' '--credits --groupers --parsers --processors ' "$(offered dshark sample 7 '')"
 is 'nothing more' ' ' "$(offered dshark --help '')"
 is 'no such command' ' ' "$(offered dshark walk '')"
 if command -v zsh >/dev/null; then is zsh '' "$(zsh -n completions/_dshark 2>&1)"; fi

@@ -20,8 +20,7 @@ same_sizes s f g e h = record {
   parsers = subst (λ x. NumberOr 2 x s.parsers) (e 0) h.parsers;
   groupers = subst (λ x. NumberOr 2 x s.groupers) (e 1) h.groupers;
   processors = subst (λ x. NumberOr 2 x s.processors) (e 2) h.processors;
-  workers = subst (λ x. NumberOr 1 x s.workers) (e 3) h.workers;
-  credits = subst (λ x. NumberOr 16 x s.credits) (e 4) h.credits;
+  credits = subst (λ x. NumberOr 16 x s.credits) (e 3) h.credits;
 }
 
 -- what is asked depends on the values alone

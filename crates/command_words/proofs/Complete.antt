@@ -65,9 +65,8 @@ of_size : (k : ℕ) → k < length size_options → Example (option_kind Run k)
 of_size zero h = of_one 16 (omega arith)
 of_size (suc zero) h = of_one 16 (omega arith)
 of_size (suc (suc zero)) h = of_one 16 (omega arith)
-of_size (suc (suc (suc zero))) h = of_one 16 (omega arith)
-of_size (suc (suc (suc (suc zero)))) h = of_one 1024 (omega arith)
-of_size (suc (suc (suc (suc (suc k))))) h = absurd (omega arith)
+of_size (suc (suc (suc zero))) h = of_one 1024 (omega arith)
+of_size (suc (suc (suc (suc k)))) h = absurd (omega arith)
 
 of_option : (c : Name) (k : ℕ) → k < length (options_of c) → Example (option_kind c k)
 of_option Count k h = absurd (omega arith)
@@ -146,10 +145,9 @@ sizes_of values o =
     let parsers = number_of 16 2 (values 0) (o 0) in
     let groupers = number_of 16 2 (values 1) (o 1) in
     let processors = number_of 16 2 (values 2) (o 2) in
-    let workers = number_of 16 1 (values 3) (o 3) in
-    let credits = number_of 1024 16 (values 4) (o 4) in (
-      record { parsers = parsers.0; groupers = groupers.0; processors = processors.0; workers = workers.0; credits = credits.0 },
-      record { parsers = parsers.1; groupers = groupers.1; processors = processors.1; workers = workers.1; credits = credits.1 },
+    let credits = number_of 1024 16 (values 3) (o 3) in (
+      record { parsers = parsers.0; groupers = groupers.0; processors = processors.0; credits = credits.0 },
+      record { parsers = parsers.1; groupers = groupers.1; processors = processors.1; credits = credits.1 },
     )
 
 field_of : (vs : List (List ℕ)) → AtMostOne Field vs → (f : Option FieldRef) × FieldOr vs f

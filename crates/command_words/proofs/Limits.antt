@@ -8,12 +8,11 @@ use Rattle.command_words.specs.CommandLine.{AtMostOne}
 use Rattle.command_words.specs.Words.{Accepts, NumberOr, HasSizes}
 use Rattle.command_words.specs.Words.Asked.{AskedRun, AskedSample}
 
--- the numbers of nodes and of workers are 1 to 16, and the credits 1 to 1024
+-- the numbers of nodes are 1 to 16, and the credits 1 to 1024
 pub record AreWithin (sizes : Sizes) : Type 0 where
   pub parsers : (1 ≤ sizes.parsers) × (sizes.parsers ≤ 16)
   pub groupers : (1 ≤ sizes.groupers) × (sizes.groupers ≤ 16)
   pub processors : (1 ≤ sizes.processors) × (sizes.processors ≤ 16)
-  pub workers : (1 ≤ sizes.workers) × (sizes.workers ≤ 16)
   pub credits : (1 ≤ sizes.credits) × (sizes.credits ≤ 1024)
 
 number_within : (most usual n : ℕ) (vs : List (List ℕ)) → 1 ≤ usual → usual ≤ most → AtMostOne (Number 1 most) vs → NumberOr usual vs n
@@ -30,8 +29,7 @@ sizes_within values sizes o h = record {
   parsers = number_within 16 2 sizes.parsers (values 0) (omega arith) (omega arith) (o 0) h.parsers;
   groupers = number_within 16 2 sizes.groupers (values 1) (omega arith) (omega arith) (o 1) h.groupers;
   processors = number_within 16 2 sizes.processors (values 2) (omega arith) (omega arith) (o 2) h.processors;
-  workers = number_within 16 1 sizes.workers (values 3) (omega arith) (omega arith) (o 3) h.workers;
-  credits = number_within 1024 16 sizes.credits (values 4) (omega arith) (omega arith) (o 4) h.credits;
+  credits = number_within 1024 16 sizes.credits (values 3) (omega arith) (omega arith) (o 3) h.credits;
 }
 
 pub run_within : (words : List (List ℕ)) (job : List ℕ) (sizes : Sizes) → Accepts words (AskedRun job sizes) → AreWithin sizes

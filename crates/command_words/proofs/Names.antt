@@ -36,8 +36,7 @@ is_size zero h = record { rest = _; dashed = refl; alone = refl; joined = λ v. 
 is_size (suc zero) h = record { rest = _; dashed = refl; alone = refl; joined = λ v. refl; cut = λ v. refl; found = refl }
 is_size (suc (suc zero)) h = record { rest = _; dashed = refl; alone = refl; joined = λ v. refl; cut = λ v. refl; found = refl }
 is_size (suc (suc (suc zero))) h = record { rest = _; dashed = refl; alone = refl; joined = λ v. refl; cut = λ v. refl; found = refl }
-is_size (suc (suc (suc (suc zero)))) h = record { rest = _; dashed = refl; alone = refl; joined = λ v. refl; cut = λ v. refl; found = refl }
-is_size (suc (suc (suc (suc (suc k))))) h = absurd (omega arith)
+is_size (suc (suc (suc (suc k)))) h = absurd (omega arith)
 
 is_name : (c : Name) (k : ℕ) → k < length (options_of c) → IsName c k
 is_name Count k h = absurd (omega arith)

@@ -17,14 +17,12 @@ anyway None X x = x
 anyway (Some a) X x = tt
 
 -- sizes are the same where each number is
-abbrev sizes : (parsers groupers processors workers credits : ℕ) → Sizes
-sizes parsers groupers processors workers credits =
-    record { parsers = parsers; groupers = groupers; processors = processors; workers = workers; credits = credits }
+abbrev sizes : (parsers groupers processors credits : ℕ) → Sizes
+sizes parsers groupers processors credits = record { parsers = parsers; groupers = groupers; processors = processors; credits = credits }
 
-pub same_fields : (s : Sizes) (parsers groupers processors workers credits : ℕ) → s.parsers ≡ parsers → s.groupers ≡ groupers
-    → s.processors ≡ processors → s.workers ≡ workers → s.credits ≡ credits
-    → s ≡ record { parsers = parsers; groupers = groupers; processors = processors; workers = workers; credits = credits }
-same_fields s parsers groupers processors workers credits p g q w c =
-    ap (λ x. sizes x s.groupers s.processors s.workers s.credits) p ∙ ap (λ x. sizes parsers x s.processors s.workers s.credits) g
-    ∙ ap (λ x. sizes parsers groupers x s.workers s.credits) q ∙ ap (λ x. sizes parsers groupers processors x s.credits) w
-    ∙ ap (λ x. sizes parsers groupers processors workers x) c
+pub same_fields : (s : Sizes) (parsers groupers processors credits : ℕ) → s.parsers ≡ parsers → s.groupers ≡ groupers
+    → s.processors ≡ processors → s.credits ≡ credits
+    → s ≡ record { parsers = parsers; groupers = groupers; processors = processors; credits = credits }
+same_fields s parsers groupers processors credits p g q c =
+    ap (λ x. sizes x s.groupers s.processors s.credits) p ∙ ap (λ x. sizes parsers x s.processors s.credits) g
+    ∙ ap (λ x. sizes parsers groupers x s.credits) q ∙ ap (λ x. sizes parsers groupers processors x) c

@@ -167,7 +167,7 @@ few_words Sample = omega arith
 few_words Help = omega arith
 few_words Version = omega arith
 
-pub few_options : (c : Name) → length (options_of c) ≤ 5
+pub few_options : (c : Name) → length (options_of c) ≤ 4
 few_options Count = omega arith
 few_options Stack = omega arith
 few_options Check = omega arith
@@ -177,16 +177,15 @@ few_options Sample = omega arith
 few_options Help = omega arith
 few_options Version = omega arith
 
-none_of_all : (k : ℕ) → one_or_none (get_or (None ∷ None ∷ None ∷ None ∷ None ∷ []) k None) ≡ []
+none_of_all : (k : ℕ) → one_or_none (get_or (None ∷ None ∷ None ∷ None ∷ []) k None) ≡ []
 none_of_all zero = refl
 none_of_all (suc zero) = refl
 none_of_all (suc (suc zero)) = refl
 none_of_all (suc (suc (suc zero))) = refl
-none_of_all (suc (suc (suc (suc zero)))) = refl
-none_of_all (suc (suc (suc (suc (suc k))))) = refl
+none_of_all (suc (suc (suc (suc k)))) = refl
 
 -- nothing is read before the first word
-pub started : (c : Name) → StandsFor c 0 ([] ∷ [] ∷ [] ∷ []) (None ∷ None ∷ None ∷ None ∷ None ∷ []) None []
+pub started : (c : Name) → StandsFor c 0 ([] ∷ [] ∷ [] ∷ []) (None ∷ None ∷ None ∷ None ∷ []) None []
 started c =
     record {
       parts = [];

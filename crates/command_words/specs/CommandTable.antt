@@ -13,12 +13,12 @@ pub record CommandRow : Type 0 where
   pub plain : List WordKind
   pub options : List (List ℕ × WordKind)
 
--- the options of a command that runs a pipeline: how many nodes it has of each kind, how many threads these are dealt
--- to, and how many credits each of its links has
+-- the options of a command that runs a pipeline: how many nodes it has of each kind, and how many credits each of its
+-- links
 abbrev pub size_options : List (List ℕ × WordKind)
 size_options =
     (codes "--parsers", Number 1 16) ∷ (codes "--groupers", Number 1 16) ∷ (codes "--processors", Number 1 16)
-    ∷ (codes "--workers", Number 1 16) ∷ (codes "--credits", Number 1 1024) ∷ []
+    ∷ (codes "--credits", Number 1 1024) ∷ []
 
 -- the table; a window is at most an hour in nanoseconds
 abbrev pub table_row : Name → CommandRow

@@ -49,8 +49,7 @@ pub record HasSizes (values : ℕ → List (List ℕ)) (sizes : Sizes) : Type 0 
   pub parsers : NumberOr 2 (values 0) sizes.parsers
   pub groupers : NumberOr 2 (values 1) sizes.groupers
   pub processors : NumberOr 2 (values 2) sizes.processors
-  pub workers : NumberOr 1 (values 3) sizes.workers
-  pub credits : NumberOr 16 (values 4) sizes.credits
+  pub credits : NumberOr 16 (values 3) sizes.credits
 
 -- The needed words, and the values of the options by their numbers in the row, say what is asked:
 -- of `stack`, option 0 is the port and option 1 the field.

@@ -16,15 +16,13 @@ use field_table::{FieldRef, field};
 /// The port of VXLAN where none is given.
 const VXLAN_PORT: u32 = 4789;
 
-/// How many nodes a pipeline has of each kind, and how many workers, the threads that its nodes are
-/// dealt to, 1 to 16 each; and how many credits each of its links has, 1 to 1,024. With one worker
-/// all nodes take their turns in the thread of the caller.
+/// How many nodes a pipeline has of each kind, 1 to 16 each, and how many credits each of its links,
+/// 1 to 1,024.
 #[derive(Clone, Copy, Debug, PartialEq, Eq)]
 pub struct Sizes {
     pub parsers: u32,
     pub groupers: u32,
     pub processors: u32,
-    pub workers: u32,
     pub credits: u32,
 }
 
@@ -195,13 +193,11 @@ fn sizes_of(values: [Option<&str>; MOST_OPTIONS]) -> Option<Sizes>
     let parsers = number_or(values[0], 16, 2)?;
     let groupers = number_or(values[1], 16, 2)?;
     let processors = number_or(values[2], 16, 2)?;
-    let workers = number_or(values[3], 16, 1)?;
-    let credits = number_or(values[4], 1024, 16)?;
+    let credits = number_or(values[3], 1024, 16)?;
     Some(Sizes {
         parsers,
         groupers,
         processors,
-        workers,
         credits,
     })
 }

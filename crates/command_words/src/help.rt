@@ -23,13 +23,11 @@ usage: dshark COMMAND WORDS
   central JOB
       Reads every capture that JOB names, and prints groups, delays and counts.
       dshark central job.json
-  run JOB [--parsers N] [--groupers N] [--processors N]
-          [--workers N] [--credits N]
+  run JOB [--parsers N] [--groupers N] [--processors N] [--credits N]
       Prints the report of central, line by line as soon as each is settled.
       --parsers N      how many nodes read captures, 1 to 16 (default 2)
       --groupers N     how many gather the copies, 1 to 16 (default 2)
       --processors N   how many judge them, 1 to 16 (default 2)
-      --workers N      threads the nodes are dealt to, 1 to 16 (default 1)
       --credits N      frames under way on a link, 1 to 1024 (default 16)
       dshark run job.json --parsers 4
   sample N [the options of run]

@@ -35,15 +35,14 @@ pub(crate) enum Name {
 pub(crate) const MOST_WORDS: usize = 3;
 
 /// How many options a command has at most.
-pub(crate) const MOST_OPTIONS: usize = 5;
+pub(crate) const MOST_OPTIONS: usize = 4;
 
-/// The options of a command that runs a pipeline: how many nodes it has of each kind, how many
-/// threads these are dealt to, and how many credits each of its links has.
-const SIZE_OPTIONS: [(&str, WordKind); 5] = [
+/// The options of a command that runs a pipeline: how many nodes it has of each kind, and how many
+/// credits each of its links.
+const SIZE_OPTIONS: [(&str, WordKind); 4] = [
     ("--parsers", WordKind::Number(1, 16)),
     ("--groupers", WordKind::Number(1, 16)),
     ("--processors", WordKind::Number(1, 16)),
-    ("--workers", WordKind::Number(1, 16)),
     ("--credits", WordKind::Number(1, 1024)),
 ];
 

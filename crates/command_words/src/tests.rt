@@ -6,7 +6,7 @@ use std::alloc::{AllocError, Global};
 use std::test::Fail;
 
 // Lists of words, one word a space, and the place where each is refused.
-static REFUSED: [(&str, u32); 73] = [
+static REFUSED: [(&str, u32); 70] = [
     ("", 0),
     ("walk j", 0),
     ("-h", 0),
@@ -68,9 +68,7 @@ static REFUSED: [(&str, u32); 73] = [
     ("run j --credits=1025", 2),
     ("run j --credits -1", 3),
     ("run j --port 1", 2),
-    ("run j --workers=0", 2),
-    ("run j --workers 17", 3),
-    ("run j --workers 2 --workers=2", 4),
+    ("run j --workers=1", 2),
     ("run --credits 1", 3),
     ("run --credits 1 j --groupers 2 --credits=1", 6),
     ("sample", 1),
@@ -79,7 +77,6 @@ static REFUSED: [(&str, u32); 73] = [
     ("sample 000000000000000000007", 1),
     ("sample 7 8", 2),
     ("sample 7 --processors 17", 3),
-    ("sample 7 --workers", 3),
 ];
 
 // The words of a line.
@@ -105,14 +102,13 @@ fn words_are_refused_at_their_first_wrong_one(rt: HostRuntime) -> Result<(), Fai
     Ok(())
 }
 
-// The sizes of these numbers of nodes, workers and credits.
-fn sizes(numbers: [u32; 5]) -> Sizes {
-    let [parsers, groupers, processors, workers, credits] = numbers;
+// The sizes of these numbers of nodes and credits.
+fn sizes(numbers: [u32; 4]) -> Sizes {
+    let [parsers, groupers, processors, credits] = numbers;
     Sizes {
         parsers,
         groupers,
         processors,
-        workers,
         credits,
     }
 }
@@ -159,22 +155,17 @@ fn words_ask_for_a_command_with_its_values(rt: HostRuntime) -> Result<(), Fail> 
         ),
         ("check j", Command::Check { job: "j" }),
         ("central j", Command::Central { job: "j" }),
-        ("run j", run([2, 2, 2, 1, 16])),
-        ("run --credits=1 j --parsers 16", run([16, 2, 2, 1, 1])),
+        ("run j", run([2, 2, 2, 16])),
+        ("run --credits=1 j --parsers 16", run([16, 2, 2, 1])),
         (
             "run --groupers 3 --processors=05 --credits 1024 --parsers=1 j",
-            run([1, 3, 5, 1, 1024]),
+            run([1, 3, 5, 1024]),
         ),
-        ("run j --workers 16", run([2, 2, 2, 16, 16])),
-        ("sample 7", sample(7, [2, 2, 2, 1, 16])),
-        ("sample 00000000000000000000", sample(0, [2, 2, 2, 1, 16])),
+        ("sample 7", sample(7, [2, 2, 2, 16])),
+        ("sample 00000000000000000000", sample(0, [2, 2, 2, 16])),
         (
             "sample --processors 16 18446744073709551615",
-            sample(18_446_744_073_709_551_615, [2, 2, 16, 1, 16]),
-        ),
-        (
-            "sample --workers=004 7 --credits 3",
-            sample(7, [2, 2, 2, 4, 3]),
+            sample(18_446_744_073_709_551_615, [2, 2, 16, 16]),
         ),
         ("--help", Command::Help),
         ("--version", Command::Version),
