@@ -10,3 +10,4 @@ pub mod Looking
 pub mod Starting
 pub mod Done
 pub mod Settled
+pub mod Crosses
