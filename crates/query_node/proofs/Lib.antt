@@ -10,4 +10,3 @@ pub mod Looking
 pub mod Starting
 pub mod Done
 pub mod Settled
-pub mod Crosses
