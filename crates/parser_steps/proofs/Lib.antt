@@ -14,3 +14,4 @@ pub mod Joined
 pub mod Beginning
 pub mod Putting
 pub mod Ready
+pub mod Crosses
