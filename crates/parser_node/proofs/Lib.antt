@@ -4,4 +4,3 @@ pub mod Stepping
 pub mod Shown
 pub mod Starting
 pub mod Settled
-pub mod Crosses

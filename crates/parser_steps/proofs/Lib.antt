@@ -14,4 +14,3 @@ pub mod Joined
 pub mod Beginning
 pub mod Putting
 pub mod Ready
-pub mod Crosses
