@@ -1,32 +1,28 @@
 //! The report of a list: each group is answered once its window is over.
-ghost use Rattle.std.specs.Prelude.{ℕ, ◌≡◌, ◌≤◌, ◌<◌, ◌++◌, ◌∷◌, [], List, IfOk, OnOk, Some, length, slice_get};
-ghost use Rattle.ds_base.specs.Copies.{Copies};
+ghost use Rattle.std.specs.Prelude.{ℕ, ◌≡◌, ◌≤◌, ◌++◌, ◌∷◌, [], List, IfOk, OnOk, length};
 ghost use Rattle.ds_base.specs.declared.summary.Summary.{Summary};
 ghost use Rattle.summary_spec.specs.Job.{declared_of};
 ghost use Rattle.window_grouper.specs.Groups.{groups_of};
 ghost use Rattle.window_grouper.specs.Positions.{ArePlaces};
 ghost use Rattle.window_grouper.specs.Sorted.{by_stamp};
-ghost use Rattle.packed_groups.specs.Seen.{AreWithin, group_at};
-ghost use Rattle.central_report.specs.Answering.{IsNext};
 ghost use Rattle.central_report.specs.Laws.{AreReportable};
 ghost use Rattle.central_report.specs.Progress.{AreInTurn, HasAnswered, HasLeft, HasTaken, HasTakenSome, IsNextOf};
 ghost use Rattle.central_report.specs.Report.{report_over};
 
 use crate::closing::closed;
 use crate::written::Written;
-use ds_base::{CountsList, Group, Nums, OutOfMemory, SummaryList, Text};
+use ds_base::{CountsList, OutOfMemory, Summary, Text};
 use lean_order::stamp_order;
-use packed_groups::{OpenPlaces, PlaceList};
 use packed_summaries::LeanList;
 use std::alloc::Global;
 use summary_spec::Job;
+use window_grouper::OpenGroups;
 
 /// The whole report of a job over the accepted summaries of its captures, in any order, and the counts
 /// of each capture in the order of their numbers. The only refusal is want of memory.
 ///
 /// Each group is answered once its window is over, and is then let go. So beside the list it holds the
-/// text, the places of the list in the order of stamps, those of the groups that may still gain a member,
-/// and one group, unpacked.
+/// text, the places of the list in the order of stamps, and the groups that may still gain a member.
 /// It takes time in the number of summaries times its logarithm.
 pub fn central_text(
     alloc: Global,
@@ -55,99 +51,59 @@ fn answer_all(
     ensures { IfOk result (λ written. HasAnswered job.now.names.captures.items (declared_of job.now) written
         (groups_of job.now.window (by_stamp list.now.items))) }
 {
-    let mut groups = OpenPlaces::new(alloc, list, job.window);
-    let mut room = no_group(alloc);
+    let mut groups = OpenGroups::new(alloc, job.window);
     let mut written = Written::new(alloc);
     for place in places {
-        take_up(job, *place, &mut groups, &mut room, &mut written)?;
+        let s = list.get(*place);
+        take_up(job, &s, &mut groups, &mut written)?;
     }
-    answer_rest(job, &mut groups, &mut room, &mut written)?;
+    answer_rest(job, &mut groups, &mut written)?;
     Ok(written)
 }
 
-/// Room in which one group after another is unpacked. It takes no memory yet.
-fn no_group(alloc: Global) -> Group {
-    Group {
-        key: Nums::new(),
-        members: SummaryList::new(alloc),
-    }
-}
-
-/// Takes the summary at a place up, and first answers the groups that are over at its time.
+/// Takes the next summary up, and first answers the groups that are over at its time.
 fn take_up(
     job: &Job,
-    place: u64,
-    groups: &mut OpenPlaces<'_>,
-    room: &mut Group,
+    s: &Summary,
+    groups: &mut OpenGroups,
     written: &mut Written,
 ) -> Result<(), OutOfMemory>
-    requires within { place < length groups.old.list }
-    requires next { (s : Summary) → slice_get groups.old.list place ≡ Some s →
-        IsNextOf job.now.names.captures.items (declared_of job.now) groups.old.groups written.old s }
-    ensures list { groups.new.list ≡ groups.old.list }
-    ensures taken { OnOk result ((s : Summary) → slice_get groups.old.list place ≡ Some s →
-        (front : List Summary) (before : ℕ) → before ≤ s.at.time → AreInTurn (declared_of job.now) (front ++ s ∷ []) →
-        HasTaken job.now.names.captures.items (declared_of job.now) groups.old.groups written.old front before →
-        HasTaken job.now.names.captures.items (declared_of job.now) groups.new.groups written.new (front ++ s ∷ []) s.at.time) }
+    requires { IsNextOf job.now.names.captures.items (declared_of job.now) groups.old written.old s.now }
+    ensures { OnOk result ((front : List Summary) (before : ℕ) → before ≤ s.now.at.time → AreInTurn (declared_of job.now) (front ++ s.now ∷ []) →
+        HasTaken job.now.names.captures.items (declared_of job.now) groups.old written.old front before →
+        HasTaken job.now.names.captures.items (declared_of job.now) groups.new written.new (front ++ s.now ∷ []) s.now.at.time) }
 {
-    let time = groups.time_at(place);
-    answer_closed(job, time, groups, room, written)?;
-    groups.add(place)
+    answer_closed(job, s.at.time, groups, written)?;
+    groups.place(s)
 }
 
 /// Answers the groups whose windows are over at this time.
 fn answer_closed(
     job: &Job,
     time: u64,
-    groups: &mut OpenPlaces<'_>,
-    room: &mut Group,
+    groups: &mut OpenGroups,
     written: &mut Written,
 ) -> Result<(), OutOfMemory>
-    requires { HasTakenSome job.now.names.captures.items (declared_of job.now) groups.old.groups written.old time }
-    ensures list { groups.new.list ≡ groups.old.list }
-    ensures taken { OnOk result ((front : List Summary) (before : ℕ) → before ≤ time →
-        HasTaken job.now.names.captures.items (declared_of job.now) groups.old.groups written.old front before →
-        HasTaken job.now.names.captures.items (declared_of job.now) groups.new.groups written.new front time) }
+    requires { HasTakenSome job.now.names.captures.items (declared_of job.now) groups.old written.old time }
+    ensures { OnOk result ((front : List Summary) (before : ℕ) → before ≤ time →
+        HasTaken job.now.names.captures.items (declared_of job.now) groups.old written.old front before →
+        HasTaken job.now.names.captures.items (declared_of job.now) groups.new written.new front time) }
 {
-    while let Some(places) = groups.next_closed(time) {
-        answer_one(job, &places, groups, room, written)?;
+    while let Some(group) = groups.next_closed(time) {
+        written.answer(job, &group)?;
     }
     Ok(())
 }
 
 /// Answers the groups that are left, after the last summary.
-fn answer_rest(
-    job: &Job,
-    groups: &mut OpenPlaces<'_>,
-    room: &mut Group,
-    written: &mut Written,
-) -> Result<(), OutOfMemory>
-    requires { (front : List Summary) × HasLeft job.now.names.captures.items (declared_of job.now) groups.old.groups.held written.old front }
+fn answer_rest(job: &Job, groups: &mut OpenGroups, written: &mut Written) -> Result<(), OutOfMemory>
+    requires { (front : List Summary) × HasLeft job.now.names.captures.items (declared_of job.now) groups.old.held written.old front }
     ensures { OnOk result ((front : List Summary) →
-        HasLeft job.now.names.captures.items (declared_of job.now) groups.old.groups.held written.old front →
+        HasLeft job.now.names.captures.items (declared_of job.now) groups.old.held written.old front →
         HasAnswered job.now.names.captures.items (declared_of job.now) written.new (groups_of job.now.window front)) }
 {
-    while let Some(places) = groups.next() {
-        answer_one(job, &places, groups, room, written)?;
+    while let Some(group) = groups.next() {
+        written.answer(job, &group)?;
     }
     Ok(())
-}
-
-/// Answers the group of the summaries at some places, which is unpacked for it.
-fn answer_one(
-    job: &Job,
-    places: &PlaceList,
-    groups: &OpenPlaces<'_>,
-    room: &mut Group,
-    written: &mut Written,
-) -> Result<(), OutOfMemory>
-    requires some { 0 < length places.now.items }
-    requires within { AreWithin groups.now.list places.now.items }
-    requires next { IsNext (declared_of job.now) written.old (group_at groups.now.list places.now.items) }
-    ensures { OnOk result ((given : List Copies) →
-        HasAnswered job.now.names.captures.items (declared_of job.now) written.old given →
-        HasAnswered job.now.names.captures.items (declared_of job.now) written.new (given ++ group_at groups.now.list places.now.items ∷ [])) }
-{
-    groups.unpack(places, room)?;
-    written.answer(job, room)
 }

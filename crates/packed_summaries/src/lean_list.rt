@@ -5,7 +5,7 @@ ghost use Rattle.ds_base.specs.declared.summary.Summary.{Summary};
 
 use crate::packed_list::PackedList;
 use crate::packing::Packing;
-use ds_base::{Nums, OutOfMemory, Stamp, Summary, SummaryList};
+use ds_base::{OutOfMemory, Stamp, Summary, SummaryList};
 use std::alloc::Global;
 use std::marker::Model;
 
@@ -95,30 +95,5 @@ impl LeanList {
         } else {
             self.whole.get(i - packed).at
         }
-    }
-
-    /// Number `k` of the key of the summary at `i`, counted from 0, which is read without unpacking the
-    /// summary. None exactly where the key has no more than `k` numbers.
-    pub fn key_number_at(&self, i: u64, k: u32) -> Option<u128>
-        requires { i < length self.now.items }
-        ensures { (s : Summary) → slice_get self.now.items i ≡ Some s → result ≡ slice_get s.key k }
-    {
-        let packed = self.packed.len();
-        if i < packed {
-            self.packed.key_number_at(i, k)
-        } else {
-            number_at(&self.whole.get(i - packed).key, k)
-        }
-    }
-}
-
-/// Number `k` of a list. None exactly where it has no more than `k`.
-fn number_at(numbers: &Nums, k: u32) -> Option<u128>
-    ensures { result ≡ slice_get numbers.now k }
-{
-    if k < numbers.len() {
-        Some(numbers.get(k))
-    } else {
-        None
     }
 }

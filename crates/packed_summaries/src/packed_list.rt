@@ -8,7 +8,7 @@ ghost use Rattle.packed_summaries.specs.Rows.{Fits};
 
 use crate::fits::fits;
 use crate::packing::Packing;
-use crate::row::{compare_keys, key_in, key_number_in, push_row, row_at, stamp_in, summary_in, value_in};
+use crate::row::{compare_keys, key_in, push_row, row_at, stamp_in, summary_in, value_in};
 use ds_base::{Nums, OutOfMemory, Stamp, Summary};
 use std::alloc::Global;
 use std::cmp::Ordering;
@@ -118,15 +118,6 @@ impl PackedList {
     {
         let row = row_at(&self.words, self.packing.stride(), self.len, i);
         key_in(&self.packing, row)
-    }
-
-    /// Number `k` of the key of the summary at `i`. None exactly where its key has no more than `k` numbers.
-    pub fn key_number_at(&self, i: u64, k: u32) -> Option<u128>
-        requires { i < length self.now.items }
-        ensures { (s : Summary) → slice_get self.now.items i ≡ Some s → result ≡ slice_get s.key k }
-    {
-        let row = row_at(&self.words, self.packing.stride(), self.len, i);
-        key_number_in(&self.packing, row, k)
     }
 
     /// The value of a variable in the summary at `i`.

@@ -135,18 +135,6 @@ pub(crate) fn key_in(packing: &Packing, row: &[u64]) -> Nums
     key
 }
 
-/// Number `k` of the key of a row.
-pub(crate) fn key_number_in(packing: &Packing, row: &[u64], k: u32) -> Option<u128>
-    requires { length row.now ≡ row_len packing.now.wide }
-    ensures { result ≡ slice_get (summary_in packing.now row.now).key k }
-{
-    if k >= packing.key_len() {
-        return None;
-    }
-    let column = packing.column(packing.key_variable(k));
-    Some(value_in(row, column))
-}
-
 /// The order of the keys of two rows.
 pub(crate) fn compare_keys(packing: &Packing, first: &[u64], second: &[u64]) -> Ordering
     requires first { length first.now ≡ row_len packing.now.wide }

@@ -1,5 +1,0 @@
-pub mod Seen
-pub mod KeySlots
-pub mod Finding
-pub mod Index
-pub mod Held
